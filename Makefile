@@ -1,5 +1,5 @@
 # The two commands of the README: `make run` and `make test`. Each does all its own set-up.
-ARCHIVES := term
+ARCHIVES := term claggyfoot
 
 .PHONY: run test prove archives rust fmt
 

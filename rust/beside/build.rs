@@ -4,7 +4,7 @@ use std::env;
 use std::path::Path;
 
 /// The archives that are linked, by library name.
-const ARCHIVES: [&str; 1] = ["term"];
+const ARCHIVES: [&str; 2] = ["term", "claggyfoot"];
 
 fn main() {
     let manifest = env::var("CARGO_MANIFEST_DIR").expect("cargo sets the manifest directory");

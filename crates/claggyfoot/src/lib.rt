@@ -1,0 +1,49 @@
+// What C and Rust link. Each function wraps one call of the crates below it, and promises what that call promises, in numbers.
+ghost use mathlib.Core.Path.{_≡_};
+ghost use Rattle.claggyfoot.specs.Numbers.{EntersNumbers, StandsNumbers};
+
+// What `cf_name_enter` answers: 0 and the number of the name's slot, or the refusal and 0.
+#[repr(C)]
+pub struct NameEntered {
+    pub refusal: u64,
+    pub number: u64,
+}
+
+// What `cf_name_of` answers: 0 and the part of the table where the name stands, or the refusal, 0 and 0.
+#[repr(C)]
+pub struct NamePlace {
+    pub refusal: u64,
+    pub start: u64,
+    pub length: u64,
+}
+
+fn wide(n: usize) -> u64
+    ensures { λ r. ⌜ r ≡ n ⌝ }
+{
+    n as u64
+}
+
+// Enters a name.
+#[no_mangle]
+pub extern "C" fn cf_name_enter(table: &mut [u8], name: &[u8]) -> NameEntered
+    ensures { λ r. ⌜ EntersNumbers (now (table .entry)) (now (name .entry)) (r .refusal) (r .number) (now (table .exit)) ⌝ }
+{
+    let entry = names::enter(table, name);
+    NameEntered {
+        refusal: names::entry_refusal(entry),
+        number: wide(names::entry_number(entry)),
+    }
+}
+
+// Where the name with a number stands.
+#[no_mangle]
+pub extern "C" fn cf_name_of(table: &[u8], number: u64) -> NamePlace
+    ensures { λ r. ⌜ StandsNumbers (now (table .entry)) number (r .refusal) (r .start) (r .length) ⌝ }
+{
+    let place = names::place_of(table, number as usize);
+    NamePlace {
+        refusal: names::place_refusal(place),
+        start: wide(names::place_start(place)),
+        length: wide(names::place_size(place)),
+    }
+}

@@ -1,0 +1,6 @@
+-- Laws that join the code's numbers to the definitions of specs/.
+pub mod Hashing
+pub mod Using
+pub mod Running
+pub mod Bits
+pub mod Writing

@@ -1,0 +1,93 @@
+-- What the calls on a table promise: 01, 'Names' and refusals 1, 11, 12 and 13.
+use mathlib.Core.Path.{_≡_}
+use mathlib.Core.List.{List, []}
+use Prim.Native.Nat.{ℕ, _+_, _*_, _≤_, _<_}
+use lib.ListN.{length, getD, take, drop}
+use Rattle.names.specs.Name.{IsName}
+use Rattle.names.specs.Table.{Holds, Passes, Missing, put}
+pub use Rattle.names.specs.declared.Check.{Check}
+pub use Rattle.names.specs.declared.Check.the-variants.{Fails, Good}
+pub use Rattle.names.specs.declared.Entry.{Entry}
+pub use Rattle.names.specs.declared.Entry.the-variants.{Held, New, NoTable, NoName, NoSlot}
+pub use Rattle.names.specs.declared.Place.{Place}
+pub use Rattle.names.specs.declared.Place.the-variants.{At, BadTable, NoNumber}
+
+-- The promise of `check`: the count of the names and of the free slots of a table that passes.
+pub record Counts (table : List ℕ) (held free : ℕ) : Type 0 where
+  pub names : List (List ℕ)
+  pub holds : Holds table names free
+  pub count : length names ≡ held
+
+abbrev pub Checks : List ℕ → Check → Type 0
+Checks table Fails = Passes table → ⊥
+Checks table (Good held free) = Counts table held free
+
+-- The paper's refusal and number for each answer of `enter`.
+abbrev pub entryRefusal : Entry → ℕ
+entryRefusal (Held k) = 0
+entryRefusal (New k) = 0
+entryRefusal NoTable = 1
+entryRefusal NoName = 11
+entryRefusal NoSlot = 12
+
+abbrev pub entryNumber : Entry → ℕ
+entryNumber (Held k) = k
+entryNumber (New k) = k
+entryNumber NoTable = 0
+entryNumber NoName = 0
+entryNumber NoSlot = 0
+
+-- Exactly when `enter` gives each answer, in the order 1, 11, held, 12.
+pub data Given (table name : List ℕ) : Entry → Type 0 where
+  no-table : (Passes table → ⊥) → Given table name NoTable
+  no-name : Passes table → (IsName name → ⊥) → Given table name NoName
+  held : {names : List (List ℕ)} {free k : ℕ} → Holds table names free → k < length names → getD names k [] ≡ name → Given table name (Held k)
+  new : {names : List (List ℕ)} {free k : ℕ} → Holds table names free → IsName name → Missing names name → 0 < free → k ≡ length names → Given table name (New k)
+  no-slot : {names : List (List ℕ)} → Holds table names 0 → IsName name → Missing names name → Given table name NoSlot
+
+-- The table after each answer: a new name is written over the first free slot, and nothing else changes.
+abbrev pub tableAfter : List ℕ → List ℕ → Entry → List ℕ
+tableAfter table name (Held k) = table
+tableAfter table name (New k) = put table k name
+tableAfter table name NoTable = table
+tableAfter table name NoName = table
+tableAfter table name NoSlot = table
+
+-- The promise of `enter`.
+pub record Enters (before name : List ℕ) (answer : Entry) (after : List ℕ) : Type 0 where
+  pub given : Given before name answer
+  pub leaves : after ≡ tableAfter before name answer
+
+-- The paper's refusal, and where in the table the name stands, for each answer of `place_of`; refused, 0 bytes from byte 0.
+abbrev pub placeRefusal : Place → ℕ
+placeRefusal (At start size) = 0
+placeRefusal BadTable = 1
+placeRefusal NoNumber = 13
+
+abbrev pub placeStart : Place → ℕ
+placeStart (At start size) = start
+placeStart BadTable = 0
+placeStart NoNumber = 0
+
+abbrev pub placeSize : Place → ℕ
+placeSize (At start size) = size
+placeSize BadTable = 0
+placeSize NoNumber = 0
+
+-- Exactly when `place_of` gives each answer: this is its promise.
+pub data Stands (table : List ℕ) (number : ℕ) : Place → Type 0 where
+  bad-table : (Passes table → ⊥) → Stands table number BadTable
+  no-number : {names : List (List ℕ)} {free : ℕ} → Holds table names free → length names ≤ number → Stands table number NoNumber
+  at : {names : List (List ℕ)} {free start size : ℕ} → Holds table names free → number < length names → start ≡ 32 * number + 1 → size ≡ length (getD names number []) → Stands table number (At start size)
+
+-- The promise of `name_of`: the part of the table where the name stands.
+pub record NameIs (table : List ℕ) (number : ℕ) (part : List ℕ) : Type 0 where
+  pub place : Place
+  pub stands : Stands table number place
+  pub part-is : part ≡ take (placeSize place) (drop (placeStart place) table)
+
+-- The promise of `name_refusal`.
+pub record NameRefused (table : List ℕ) (number refusal : ℕ) : Type 0 where
+  pub place : Place
+  pub stands : Stands table number place
+  pub refusal-is : refusal ≡ placeRefusal place

@@ -1,0 +1,10 @@
+-- What the crate's contracts mean. `Name`, `Table` and `Calls` are the paper's words, and `Examples` tries them. The modules
+-- after these change no meaning: `Slots`, `Once` and `Entering` are laws, `Leaves` what the functions below the calls promise.
+pub mod Name
+pub mod Table
+pub mod Calls
+pub mod Examples
+pub mod Slots
+pub mod Once
+pub mod Entering
+pub mod Leaves

@@ -1,0 +1,151 @@
+-- Each call's promise allows one outcome. It all rests on one law: a table holds one list of names.
+use mathlib.Core.Path.{_≡_, refl, sym, ap, subst, _∙_}
+use mathlib.Core.Bool.{Bool, true, false}
+use mathlib.Core.List.{List, [], _∷_, _++_, append-assoc}
+use Prim.Native.Nat.{ℕ, _+_, _*_, _<_}
+use native.Mathlib.Omega.{arith}
+use native.Mathlib.Decide.{decLt}
+use lib.ListN.{length, getD, take, drop, replicate, length-replicate}
+use lib.Seq.{take-at, drop-at}
+use Rattle.names.specs.Name.{IsName, Decides}
+use Rattle.names.specs.Table.{Named, slotOf, slotsOf, Holds, Passes, Missing}
+use Rattle.names.specs.Calls.{Given, no-table, no-name, held, new, no-slot, Enters, tableAfter, Entry, Held, New, Stands, bad-table, no-number, at, Place, NameIs, NameRefused, placeRefusal, placeStart, placeSize, Check, Fails, Good, Checks}
+use Rattle.names.specs.Slots.{named-rest, slot-length, slot-once, zero-at}
+
+-- A bool decides one way.
+pub decides-once : {P : Type 0} (a b : Bool) → Decides P a → Decides P b → a ≡ b
+decides-once true true d e = refl
+decides-once true false d e = absurd (e .no refl (d .yes refl))
+decides-once false true d e = absurd (d .no refl (e .yes refl))
+decides-once false false d e = refl
+
+pub decided : {P : Type 0} → P → Decides P true
+decided p = record { yes = λ e. p; no = λ e. let z : _≡_ {A = ℕ} 0 1 = cc in absurd (omega arith) }
+
+pub denied : {P : Type 0} → (P → ⊥) → Decides P false
+denied f = record { yes = λ e. let z : _≡_ {A = ℕ} 0 1 = cc in absurd (omega arith); no = λ e. f }
+
+-- A used slot's first byte is its name's length, which is not 0.
+starts : (name rest : List ℕ) → getD (slotOf name ++ rest) 0 0 ≡ length name
+unfolding slotOf
+starts name rest = refl
+
+-- A table that begins with a name isn't all zero.
+not-zero : (name : List ℕ) (names : List (List ℕ)) (f g : ℕ) → IsName name → slotsOf (name ∷ names) ++ replicate (32 * f) 0 ≡ replicate (32 * g) 0 → ⊥
+unfolding slotsOf
+not-zero name names f g n e =
+    let rest = slotsOf names ++ replicate (32 * f) 0 in
+    let some = n .some in
+    let whole = sym (append-assoc (slotOf name) (slotsOf names) (replicate (32 * f) 0)) ∙ e in
+    let none : length name ≡ 0 = sym (starts name rest) ∙ ap (λ (l : List ℕ). getD l 0 0) whole ∙ zero-at (32 * g) 0 in
+    omega arith
+
+slots-once : (a b : List (List ℕ)) (f g : ℕ) → Named a → Named b → slotsOf a ++ replicate (32 * f) 0 ≡ slotsOf b ++ replicate (32 * g) 0 → (a ≡ b) × (f ≡ g)
+unfolding slotsOf
+slots-once [] [] f g n m e = (refl, omega (arith, ap length e, length-replicate {A = ℕ} (32 * f) 0, length-replicate {A = ℕ} (32 * g) 0))
+slots-once (x ∷ a) [] f g n m e = absurd (not-zero x a f g (n 0 (omega arith)) e)
+slots-once [] (y ∷ b) f g n m e = absurd (not-zero y b g f (m 0 (omega arith)) (sym e))
+slots-once (x ∷ a) (y ∷ b) f g n m e =
+    let lx = slot-length x (n 0 (omega arith) .short) in
+    let ly = slot-length y (m 0 (omega arith) .short) in
+    let ra = slotsOf a ++ replicate (32 * f) 0 in
+    let rb = slotsOf b ++ replicate (32 * g) 0 in
+    let d : slotOf x ++ ra ≡ slotOf y ++ rb = sym (append-assoc (slotOf x) (slotsOf a) (replicate (32 * f) 0)) ∙ e ∙ append-assoc (slotOf y) (slotsOf b) (replicate (32 * g) 0) in
+    let same : x ≡ y = slot-once x y (sym (take-at (slotOf x) ra 32 lx) ∙ ap (take 32) d ∙ take-at (slotOf y) rb 32 ly) in
+    let rest = slots-once a b f g (named-rest x a n) (named-rest y b m) (sym (drop-at (slotOf x) ra 32 lx) ∙ ap (drop 32) d ∙ drop-at (slotOf y) rb 32 ly) in
+    let equal = rest .0 in
+    (cc, rest .1)
+
+module _ {t : List ℕ} {a b : List (List ℕ)} {f g : ℕ} (h : Holds t a f) (k : Holds t b g) where
+  pub names-once : a ≡ b
+  names-once = slots-once a b f g (h .named) (k .named) (sym (h .written) ∙ k .written) .0
+
+  pub free-once : f ≡ g
+  free-once = slots-once a b f g (h .named) (k .named) (sym (h .written) ∙ k .written) .1
+
+pub passes : {t : List ℕ} {a : List (List ℕ)} {f : ℕ} → Holds t a f → Passes t
+passes {t} {a} {f} h = record { names = a; free = f; holds = h }
+
+-- A name is held in one slot only.
+pub slot-held-once : {t : List ℕ} {a : List (List ℕ)} {f : ℕ} → Holds t a f → (j k : ℕ) (name : List ℕ) → j < length a → k < length a → getD a j [] ≡ name → getD a k [] ≡ name → j ≡ k
+slot-held-once {t} {a} h j k name lj lk ej ek = go (decLt j k) (decLt k j)
+  where
+    go : Dec (j < k) → Dec (k < j) → j ≡ k
+    go (yes l) d = absurd (h .apart j k l lk (ej ∙ sym ek))
+    go (no l) (yes m) = absurd (h .apart k j m lj (ek ∙ sym ej))
+    go (no l) (no m) = omega arith
+
+module _ {t : List ℕ} {a b : List (List ℕ)} {f g : ℕ} (h : Holds t a f) (i : Holds t b g) (k : ℕ) (name : List ℕ) (l : k < length a) (e : getD a k [] ≡ name) where
+  -- What one list of names has, the other has in the same slot.
+  there : k < length b
+  there = omega (arith, ap length (names-once h i))
+
+  same-there : getD b k [] ≡ name
+  same-there = ap (λ (names : List (List ℕ)). getD names k []) (sym (names-once h i)) ∙ e
+
+  not-missing : Missing b name → ⊥
+  not-missing m = m k there same-there
+
+-- The condition of `enter`'s answer holds of one answer only.
+pub given-once : {t name : List ℕ} (a b : Entry) → Given t name a → Given t name b → a ≡ b
+given-once a b (no-table f) (no-table g) = refl
+given-once a b (no-table f) (no-name p n) = absurd (f p)
+given-once a b (no-table f) (held h l e) = absurd (f (passes h))
+given-once a b (no-table f) (new h n m z e) = absurd (f (passes h))
+given-once a b (no-table f) (no-slot h n m) = absurd (f (passes h))
+given-once a b (no-name p n) (no-table f) = absurd (f p)
+given-once a b (no-name p n) (no-name q m) = refl
+given-once a b (no-name p n) (held {k = k} h l e) = absurd (n (subst IsName e (h .named k l)))
+given-once a b (no-name p n) (new h i m z e) = absurd (n i)
+given-once a b (no-name p n) (no-slot h i m) = absurd (n i)
+given-once a b (held h l e) (no-table f) = absurd (f (passes h))
+given-once a b (held {k = k} h l e) (no-name p n) = absurd (n (subst IsName e (h .named k l)))
+given-once {t} {name} a b (held {k = j} h l e) (held {k = k} i m d) =
+    ap Held (slot-held-once i j k name (there h i j name l e) m (same-there h i j name l e) d)
+given-once {t} {name} a b (held {k = k} h l e) (new i n m z d) = absurd (not-missing h i k name l e m)
+given-once {t} {name} a b (held {k = k} h l e) (no-slot i n m) = absurd (not-missing h i k name l e m)
+given-once a b (new h n m z e) (no-table f) = absurd (f (passes h))
+given-once a b (new h n m z e) (no-name p i) = absurd (i n)
+given-once {t} {name} a b (new i n m z d) (held {k = k} h l e) = absurd (not-missing h i k name l e m)
+given-once a b (new h n m z e) (new i o p y d) = ap New (e ∙ ap length (names-once h i) ∙ sym d)
+given-once a b (new h n m z e) (no-slot i o p) = absurd (omega (arith, free-once h i))
+given-once a b (no-slot h n m) (no-table f) = absurd (f (passes h))
+given-once a b (no-slot h n m) (no-name p i) = absurd (i n)
+given-once {t} {name} a b (no-slot i n m) (held {k = k} h l e) = absurd (not-missing h i k name l e m)
+given-once a b (no-slot h n m) (new i o p z d) = absurd (omega (arith, free-once h i))
+given-once a b (no-slot h n m) (no-slot i o p) = refl
+
+pub enters-once : {t name : List ℕ} (a b : Entry) (s u : List ℕ) → Enters t name a s → Enters t name b u → (a ≡ b) × (s ≡ u)
+enters-once {t} {name} a b s u p q =
+    let e = given-once a b (p .given) (q .given) in
+    (e, p .leaves ∙ ap (tableAfter t name) e ∙ sym (q .leaves))
+
+pub stands-once : {t : List ℕ} {number : ℕ} (p q : Place) → Stands t number p → Stands t number q → p ≡ q
+stands-once p q (bad-table f) (bad-table g) = refl
+stands-once p q (bad-table f) (no-number h l) = absurd (f (passes h))
+stands-once p q (bad-table f) (at h l s z) = absurd (f (passes h))
+stands-once p q (no-number h l) (bad-table f) = absurd (f (passes h))
+stands-once p q (no-number h l) (no-number i m) = refl
+stands-once p q (no-number h l) (at i m s z) = absurd (omega (arith, ap length (names-once h i)))
+stands-once p q (at h l s z) (bad-table f) = absurd (f (passes h))
+stands-once p q (at h l s z) (no-number i m) = absurd (omega (arith, ap length (names-once h i)))
+stands-once {t} {number} p q (at {start = start} {size = size} h l s z) (at {start = start′} {size = size′} i m u y) =
+    let starts : start ≡ start′ = s ∙ sym u in
+    let sizes : size ≡ size′ = z ∙ ap (λ (names : List (List ℕ)). length (getD names number [])) (names-once h i) ∙ sym y in
+    cc
+
+pub name-once : {t : List ℕ} {number : ℕ} (a b : List ℕ) → NameIs t number a → NameIs t number b → a ≡ b
+name-once {t} a b p q =
+    p .part-is ∙ ap (λ (x : Place). take (placeSize x) (drop (placeStart x) t)) (stands-once (p .place) (q .place) (p .stands) (q .stands)) ∙ sym (q .part-is)
+
+pub refused-once : {t : List ℕ} {number : ℕ} (a b : ℕ) → NameRefused t number a → NameRefused t number b → a ≡ b
+refused-once a b p q = p .refusal-is ∙ ap placeRefusal (stands-once (p .place) (q .place) (p .stands) (q .stands)) ∙ sym (q .refusal-is)
+
+pub checks-once : (t : List ℕ) (a b : Check) → Checks t a → Checks t b → a ≡ b
+checks-once t Fails Fails p q = refl
+checks-once t Fails (Good k f) p q = absurd (p (passes (q .holds)))
+checks-once t (Good k f) Fails p q = absurd (q (passes (p .holds)))
+checks-once t (Good j f) (Good k g) p q =
+    let counts : j ≡ k = sym (p .count) ∙ ap length (names-once (p .holds) (q .holds)) ∙ q .count in
+    let rooms : f ≡ g = free-once (p .holds) (q .holds) in
+    cc

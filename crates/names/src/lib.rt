@@ -1,0 +1,167 @@
+// The name table: lent bytes in slots of 32, a name's number being its slot. A space is a character: no call trims.
+//
+// The meaning stands in specs/: `Name` says what a name is, `Table` what a table is, and `Calls` what each call promises.
+
+pub mod checking;
+pub mod name;
+mod slot;
+
+ghost use mathlib.Core.Path.{_≡_};
+ghost use Rattle.names.specs.Calls.{entryRefusal, entryNumber, placeRefusal, placeStart, placeSize, Enters, Counts, Stands, NameIs, NameRefused};
+use checking::check;
+use name::is_name;
+use slot::find;
+use slot::wide;
+use slot::write;
+
+// The bytes of a slot, and the most slots of a table.
+pub const SLOT: usize = 32;
+
+pub const SLOTS: usize = 1024;
+
+// Whether a table passes, and then how many names it holds and how many slots are free.
+pub enum Check {
+    Fails,
+    Good { held: usize, free: usize },
+}
+
+// What entering a name gives: the slot in which it is held already, the slot that was made for it, or why it is refused.
+pub enum Entry {
+    Held(usize),
+    New(usize),
+    NoTable,
+    NoName,
+    NoSlot,
+}
+
+// Where the name with a number stands in the table, or why there is none.
+pub enum Place {
+    At { start: usize, size: usize },
+    BadTable,
+    NoNumber,
+}
+
+// The paper's refusal and number of an answer.
+pub fn entry_refusal(entry: Entry) -> u64
+    ensures { λ r. ⌜ r ≡ entryRefusal entry ⌝ }
+{
+    match entry {
+        Entry::Held(_) => 0,
+        Entry::New(_) => 0,
+        Entry::NoTable => 1,
+        Entry::NoName => 11,
+        Entry::NoSlot => 12,
+    }
+}
+
+pub fn entry_number(entry: Entry) -> usize
+    ensures { λ r. ⌜ r ≡ entryNumber entry ⌝ }
+{
+    match entry {
+        Entry::Held(slot) => slot,
+        Entry::New(slot) => slot,
+        Entry::NoTable => 0,
+        Entry::NoName => 0,
+        Entry::NoSlot => 0,
+    }
+}
+
+pub fn place_refusal(place: Place) -> u64
+    ensures { λ r. ⌜ r ≡ placeRefusal place ⌝ }
+{
+    match place {
+        Place::At { start: _, size: _ } => 0,
+        Place::BadTable => 1,
+        Place::NoNumber => 13,
+    }
+}
+
+// Where the part of an answer begins, and its size.
+pub fn place_start(place: Place) -> usize
+    ensures { λ r. ⌜ r ≡ placeStart place ⌝ }
+{
+    match place {
+        Place::At { start, size: _ } => start,
+        Place::BadTable => 0,
+        Place::NoNumber => 0,
+    }
+}
+
+pub fn place_size(place: Place) -> usize
+    ensures { λ r. ⌜ r ≡ placeSize place ⌝ }
+{
+    match place {
+        Place::At { start: _, size } => size,
+        Place::BadTable => 0,
+        Place::NoNumber => 0,
+    }
+}
+
+// Enters a name: the number of its slot, made at the first free slot if it is new.
+pub fn enter(table: &mut [u8], name: &[u8]) -> Entry
+    ensures { λ r. ⌜ Enters (now (table .entry)) (now (name .entry)) r (now (table .exit)) ⌝ }
+{
+    match check(table) {
+        Check::Fails => Entry::NoTable,
+        Check::Good { held, free } => enter_passing(table, held, free, name),
+    }
+}
+
+// The same, of a table that passes.
+fn enter_passing(table: &mut [u8], held: usize, free: usize, name: &[u8]) -> Entry
+    requires { ⌜ Counts (now table) held free ⌝ }
+    ensures { λ r. ⌜ Enters (now (table .entry)) (now (name .entry)) r (now (table .exit)) ⌝ }
+{
+    if !is_name(name) {
+        return Entry::NoName;
+    }
+    let slot = find(table, held, name);
+    if slot < held {
+        return Entry::Held(slot);
+    }
+    if free == 0 {
+        return Entry::NoSlot;
+    }
+    write(table, SLOT * held, name);
+    Entry::New(held)
+}
+
+// Where in the table the name with a number stands.
+pub fn place_of(table: &[u8], number: usize) -> Place
+    ensures { λ r. ⌜ Stands (now (table .entry)) number r ⌝ }
+{
+    match check(table) {
+        Check::Fails => Place::BadTable,
+        Check::Good { held, free: _ } => {
+            if held <= number {
+                return Place::NoNumber;
+            }
+            let at = SLOT * number;
+            Place::At {
+                start: at + 1,
+                size: wide(table[at]),
+            }
+        }
+    }
+}
+
+// The name with a number, as the part of the table where it stands; refused, an empty part.
+pub fn name_of(table: &[u8], number: usize) -> &[u8]
+    ensures { λ r. ⌜ NameIs (now (table .entry)) number (now r) ⌝ }
+{
+    match place_of(table, number) {
+        Place::At { start, size } => {
+            let end = start + size;
+            &table[start..end]
+        }
+        Place::BadTable => &table[0..0],
+        Place::NoNumber => &table[0..0],
+    }
+}
+
+// The refusal of the same, or 0.
+pub fn name_refusal(table: &[u8], number: usize) -> u64
+    ensures { λ r. ⌜ NameRefused (now (table .entry)) number r ⌝ }
+{
+    place_refusal(place_of(table, number))
+}
