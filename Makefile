@@ -1,5 +1,5 @@
 # The two commands of the README: `make run` and `make test`. Each does all its own set-up.
-ARCHIVES := term claggyfoot
+ARCHIVES := term claggyfoot calls
 
 .PHONY: run test prove archives rust fmt
 

@@ -4,7 +4,7 @@ use std::env;
 use std::path::Path;
 
 /// The archives that are linked, by library name.
-const ARCHIVES: [&str; 2] = ["term", "claggyfoot"];
+const ARCHIVES: [&str; 3] = ["term", "claggyfoot", "calls"];
 
 fn main() {
     let manifest = env::var("CARGO_MANIFEST_DIR").expect("cargo sets the manifest directory");

@@ -1,5 +1,8 @@
 //! The proved archives, with safe calls; the tests run them beside the model.
 
+pub mod book_calls;
+pub mod memory;
+
 mod foreign {
     use super::{NameEntered, NamePlace, TermRead};
 

@@ -1,0 +1,4 @@
+-- Why the code computes what the contracts say.
+pub mod Stores
+pub mod Counting
+pub mod Searching

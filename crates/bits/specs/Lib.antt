@@ -1,0 +1,3 @@
+-- Packed words: the definitions, and the laws that callers cite.
+pub mod Packed
+pub mod Laws

@@ -1,0 +1,9 @@
+-- Why the code does what it promises.
+pub mod Filling
+pub mod Parts
+pub mod Storing
+pub mod Looking
+pub mod Placing
+pub mod Adding
+pub mod Checking
+pub mod Passing

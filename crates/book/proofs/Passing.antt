@@ -1,0 +1,163 @@
+-- The check decides passing: the records below r are right and their ways are marked, and in the end the marks are counted.
+use mathlib.Core.Path.{_≡_, refl, sym, ap, _∙_, subst}
+use mathlib.Core.Logic.{_⊎_, inl, inr, _↔_}
+use mathlib.Core.List.{List, [], _∷_, _++_, map, reverse, List·Memᴰ}
+use mathlib.Core.Bool.{Bool, true, false}
+use Prim.Native.Nat.{ℕ, zero, suc, _+_, _-_, _*_, _≤_, _<_}
+use native.Mathlib.Omega.{arith}
+use native.Mathlib.Decide.{decLt, ℕ-discrete}
+use lib.Dec.{eqb}
+use lib.ListN.{length, getD, take, drop, length-take, length-drop, replicate, length-replicate}
+use borrow.Author.Tests.{eqb-true, eqb-false, eq-eqb, ne-eqb}
+use Rattle.bits.specs.Packed.{bits, sum, First}
+use Rattle.bits.specs.Laws.{length-bits}
+use Rattle.term.specs.Counting.{true≢false}
+use Rattle.tree.specs.Shape.{Shape, Place, Used, Valid, Goes, Up, On, End, Covered, Passes}
+use Rattle.tree.specs.Tally.{tally, marked}
+use Rattle.tree.specs.Tallies.{map-tally}
+use Rattle.tree.specs.Promises.{Marked, Targeted}
+use Rattle.tree.specs.Check.{Climbs, decides, targets-refuse}
+use Rattle.tree.specs.Limits.{used-low, all-held}
+use Rattle.tree.specs.Leaves.{Leaf, endOf, ends}
+use Rattle.book.specs.Memory.{View, view, taken, number, form, leaf, leaves, Recorded, Right, Passing}
+use Rattle.book.specs.Change.{of-ends, to-ends}
+use Rattle.book.specs.Promises.{Checks, RecordChecked}
+use Rattle.book.proofs.Looking.{inside, rule-taken, tree-long, nodes-low}
+
+-- The way up from the rule at a place.
+abbrev pub WayAt : List ℕ → ℕ → Type 0
+WayAt ws r = Up (view ws .tree) (suc (4096 + r)) (reverse (form (view ws) r ++ (number (view ws) r ∷ [])))
+
+-- What holds when the records below r have been checked.
+pub record Checked (ws ways : List ℕ) (r : ℕ) : Type 0 where
+  pub long : length ways ≡ 72
+  pub records : (j : ℕ) → j < r → taken (view ws) j ≡ true → Recorded (view ws) j × WayAt ws j
+  pub marks : (n : ℕ) → Marked ways n ↔ ((j : ℕ) × (j < r) × (taken (view ws) j ≡ true) × On (view ws .tree) n (suc (4096 + j)))
+
+-- r is the next place that is taken, or 512 where there is none.
+pub record Next (ws : List ℕ) (from r : ℕ) : Type 0 where
+  pub after : from ≤ r
+  pub within : r ≤ 512
+  pub none : (j : ℕ) → from ≤ j → j < r → ¬ (taken (view ws) j ≡ true)
+  pub here : r < 512 → taken (view ws) r ≡ true
+
+pub next-taken : (ws : List ℕ) (from r : ℕ) → length ws ≡ 10313 → First 1 (bits (take 8 (drop 64 ws))) from r → Next ws from r
+next-taken ws from r size f = record {
+  after = f .after;
+  within = omega (arith, f .within, long);
+  none = λ j a b u. f .before j a b (eqb-true (getD (bits (take 8 (drop 64 ws))) j 0) 1 (rule-taken ws j (omega (arith, f .within, long)) ∙ u));
+  here = λ h. sym (rule-taken ws r h) ∙ eq-eqb (getD (bits (take 8 (drop 64 ws))) r 0) 1 (f .here (omega (arith, long)));
+}
+  where
+    long : length (bits (take 8 (drop 64 ws))) ≡ 512
+    long = omega (arith, length-bits (take 8 (drop 64 ws)), length-take 8 (drop 64 ws), length-drop 64 ws)
+
+-- no mark in a map of zeros
+pub clear-map : (n : ℕ) → ¬ (Marked (replicate 72 0) n)
+clear-map n m = true≢false m (ap (λ (x : ℕ). eqb x 1) (zero n))
+  where
+    zero : (n : ℕ) → getD (bits (replicate 72 0)) n 0 ≡ 0
+    zero n = Rattle.bits.specs.Laws.get-bit (replicate 72 0) n ∙ ap (λ (w : ℕ). Prim.Native.Nat._%_ (Prim.Native.Nat._/_ w (Prim.Native.Nat._^_ 2 (63 - Prim.Native.Nat._%_ n 64))) 2) (Rattle.book.proofs.Filling.zeros-are 72 (Prim.Native.Nat._/_ n 64))
+        ∙ ap (λ (x : ℕ). Prim.Native.Nat._%_ x 2) (native.Mathlib.Nat.zero-div (Prim.Native.Nat._^_ 2 (63 - Prim.Native.Nat._%_ n 64)))
+
+pub checked-none : (ws : List ℕ) → Checked ws (replicate 72 0) 0
+checked-none ws = record {
+  long = length-replicate {A = ℕ} 72 0;
+  records = λ j h. absurd (omega arith);
+  marks = λ n. ((λ m. absurd (clear-map n m)), (λ q. let l = q .1 in absurd (omega arith)));
+}
+
+-- places that are not taken may be passed over
+pub checked-skip : (ws ways : List ℕ) (from r : ℕ) → Checked ws ways from → Next ws from r → Checked ws ways r
+checked-skip ws ways from r c x = record {
+  long = c .long;
+  records = λ j h u. c .records j (low j h u (decLt j from)) u;
+  marks = λ n. (
+    (λ m. let q = c .marks n .0 m in (q .0, (let l = q .1 in let a = x .after in omega arith), q .2, q .3)),
+    (λ q. c .marks n .1 (q .0, low (q .0) (q .1) (q .2) (decLt (q .0) from), q .2, q .3)),
+  );
+}
+  where
+    low : (j : ℕ) → j < r → taken (view ws) j ≡ true → Dec (j < from) → j < from
+    low j h u (yes l) = l
+    low j h u (no l) = absurd (x .none j (omega arith) h u)
+
+-- one record more
+pub checked-more : (ws ways ways′ : List ℕ) (r : ℕ) → Checked ws ways r → taken (view ws) r ≡ true → length ways′ ≡ length ways → (b : Bool) → RecordChecked ws ways ways′ r b → b ≡ true → Checked ws ways′ (r + 1)
+checked-more ws ways ways′ r c u l b k e = record {
+  long = l ∙ c .long;
+  records = λ j h w. rec j h w (ℕ-discrete j r);
+  marks = λ n. ((λ m. to n (k .marks e n .0 m)), (λ q. k .marks e n .1 (of n q (ℕ-discrete (q .0) r))));
+}
+  where
+    rec : (j : ℕ) → j < r + 1 → taken (view ws) j ≡ true → Dec (j ≡ r) → Recorded (view ws) j × WayAt ws j
+    rec j h w (yes d) = subst (λ (z : ℕ). Recorded (view ws) z × WayAt ws z) (sym d) (k .yes e)
+    rec j h w (no d) = c .records j (omega arith) w
+
+    to : (n : ℕ) → Marked ways n ⊎ On (view ws .tree) n (suc (4096 + r)) → (j : ℕ) × (j < r + 1) × (taken (view ws) j ≡ true) × On (view ws .tree) n (suc (4096 + j))
+    to n (inl m) = let q = c .marks n .0 m in (q .0, (let h = q .1 in omega arith), q .2, q .3)
+    to n (inr o) = (r, omega arith, u, o)
+
+    of : (n : ℕ) (q : (j : ℕ) × (j < r + 1) × (taken (view ws) j ≡ true) × On (view ws .tree) n (suc (4096 + j))) → Dec (q .0 ≡ r) → Marked ways n ⊎ On (view ws .tree) n (suc (4096 + r))
+    of n q (yes d) = inr (subst (λ (z : ℕ). On (view ws .tree) n (suc (4096 + z))) d (q .3))
+    of n q (no d) = inl (c .marks n .1 (q .0, (let h = q .1 in omega arith), q .2, q .3))
+
+-- ---- what is refused does not pass
+
+pub wrong-length : (ws : List ℕ) → ¬ (length ws ≡ 10313) → Checks ws false
+wrong-length ws n = record { yes = λ q. absurd (true≢false q refl); no = λ q p. n (p .size) }
+
+refuse : (ws : List ℕ) → ¬ (Passing ws) → Checks ws false
+refuse ws n = record { yes = λ q. absurd (true≢false q refl); no = λ q. n }
+
+pub wrong-links : (ws aims : List ℕ) (b : Bool) → Targeted (view ws .tree) aims b → b ≡ false → Checks ws false
+wrong-links ws aims b t e = refuse ws (λ p. targets-refuse (subst (λ (x : Bool). Targeted (view ws .tree) aims x) e t) (p .right .tree))
+
+pub wrong-record : (ws ways ways′ : List ℕ) (r : ℕ) → length ws ≡ 10313 → taken (view ws) r ≡ true → (b : Bool) → RecordChecked ws ways ways′ r b → b ≡ false → Checks ws false
+wrong-record ws ways ways′ r size u b k e = refuse ws (λ p. k .no e (p .right .records r u, p .right .tree .ways (endOf (leaf (view ws) r)) (to-ends (view ws) (taken (view ws)) r u (let l = nodes-low ws size (4096 + r) u in omega arith))))
+
+-- ---- the counts decide
+
+module _ (ws aims ways : List ℕ) (r : ℕ) (size : length ws ≡ 10313) (b : Bool) (t : Targeted (view ws .tree) aims b) (eb : b ≡ true) (la : length aims ≡ 72) (c : Checked ws ways r) (all : 512 ≤ r) where
+  targeted : Targeted (view ws .tree) aims true
+  targeted = subst (λ (x : Bool). Targeted (view ws .tree) aims x) eb t
+
+  low : (n : ℕ) → Used (view ws .tree) n → n < 4608
+  low = nodes-low ws size
+
+  place-low : (j : ℕ) → taken (view ws) j ≡ true → j < r
+  place-low j u = let l = low (4096 + j) u in omega arith
+
+  climbs : Climbs (view ws .tree) (ends (leaves (view ws))) ways
+  climbs = record {
+    ways = λ x i. let q = of-ends (view ws) (taken (view ws)) i in subst (λ (y : End). Up (view ws .tree) (suc (y .last)) (reverse (y .form))) (q .3) (c .records (q .0) (place-low (q .0) (q .1)) (q .1) .1);
+    marks = λ n. (
+      (λ m. let q = c .marks n .0 m in record { end = endOf (leaf (view ws) (q .0)); among = to-ends (view ws) (taken (view ws)) (q .0) (q .2) (let l = low (4096 + q .0) (q .2) in omega arith); on = q .3 }),
+      (λ o. let q = of-ends (view ws) (taken (view ws)) (o .among) in c .marks n .1 (q .0, place-low (q .0) (q .1), q .1, subst (λ (y : End). On (view ws .tree) n (suc (y .last))) (sym (q .3)) (o .on))),
+    );
+  }
+
+  full : (m : List ℕ) → length m ≡ 72 → sum (bits m) ≡ tally (marked m) 4608
+  full m l = map-tally m ∙ ap (tally (marked m)) (omega arith)
+
+  held-is : (h : ℕ) → h ≡ sum (bits (take 72 ws)) → h ≡ tally (view ws .tree .used) 4608
+  held-is h e = e ∙ ap (λ (m : List ℕ). sum (bits m)) (sym (inside ws 0 72 (omega arith))) ∙ all-held (take 4681 ws) (tree-long ws size)
+
+  both : Passes (view ws .tree) (ends (leaves (view ws))) ↔ ((tally (marked aims) 4608 ≡ tally (view ws .tree .used) 4608) × (tally (marked ways) 4608 ≡ tally (view ws .tree .used) 4608))
+  both = decides (view ws .tree) (ends (leaves (view ws))) low aims ways targeted climbs
+
+  module _ (h a : ℕ) (eh : h ≡ sum (bits (take 72 ws))) (ea : a ≡ sum (bits aims)) where
+    pub aims-wrong : ¬ (a ≡ h) → Checks ws false
+    aims-wrong n = refuse ws (λ p. n (ea ∙ full aims la ∙ both .0 (p .right .tree) .0 ∙ sym (held-is h eh)))
+
+    pub counted : (w : ℕ) → w ≡ sum (bits ways) → a ≡ h → Checks ws (eqb w h)
+    counted w ew e = record {
+      yes = λ q. record {
+        size = size;
+        right = record {
+          records = λ j u. c .records j (place-low j u) u .0;
+          tree = both .1 (sym (full aims la) ∙ sym ea ∙ e ∙ held-is h eh, sym (full ways (c .long)) ∙ sym ew ∙ eqb-true w h q ∙ held-is h eh);
+        };
+      };
+      no = λ q p. eqb-false w h q (ew ∙ full ways (c .long) ∙ both .0 (p .right .tree) .1 ∙ sym (held-is h eh));
+    }

@@ -1,0 +1,154 @@
+-- What the book's users may count on: the empty book holds no rules; memory that passes holds one set of rules within the limits, with exactly
+-- their nodes; two allowed outcomes of a call are the same; and what a call answers depends on the set of rules alone.
+use mathlib.Core.Path.{_≡_, refl, sym, ap, ap₂, _∙_, subst, fun-ext}
+use mathlib.Core.Logic.{_⊎_, inl, inr, _↔_}
+use mathlib.Core.List.{List, [], _∷_, _++_, map, reverse, append-nil, List·Memᴰ}
+use mathlib.Core.Bool.{Bool, true, false}
+use Prim.Native.Nat.{ℕ, zero, suc, _+_, _-_, _*_, _^_, _≤_, _<_}
+use native.Mathlib.Omega.{arith}
+use native.Mathlib.Decide.{ℕ-discrete}
+use lib.Dec.{eqb, ltb}
+use lib.ListN.{length, getD, take, replicate, length-take, length-replicate, getD-replicate}
+use lib.Seq.{getD-take}
+use Rattle.bits.specs.Packed.{bits, sum}
+use Rattle.term.specs.Beginnings.{both, putIf, Begins}
+use Rattle.term.specs.Counting.{true≢false}
+use Rattle.term.specs.Whole.{whole-alone}
+use Rattle.term.specs.declared.reading.Reading.the-variants.{Whole}
+use Rattle.tree.specs.Shape.{Used, Up, Passes}
+use Rattle.tree.specs.Rows.{up-same, up-one}
+use Rattle.tree.specs.Tally.{tally}
+use Rattle.tree.specs.Tallies.{listed, tally-le}
+use Rattle.tree.specs.Leaves.{ends, bases, numbered}
+use Rattle.tree.specs.NodeCount.{Numbered}
+use Rattle.tree.specs.Limits.{used-low, nodeMap, nodes-held, empty-words}
+use Rattle.book.specs.Rules.{Held, nothing, rule, Rules, isHeld, noRules, withoutRule, pickHeld, terms, ruleCount, nodesOf, Added, Taken, judged, after}
+use Rattle.book.specs.Memory.{view, taken, number, term, formOf, leaf, leaves, heldAt, Right, Passing, rulesIn}
+use Rattle.book.specs.Holding.{hanging, holds-at, number-low, term-size, base-forms, nodes-tally, rules-tally, count-tally}
+use Rattle.book.specs.Promises.{IsTerm, Empties, Checks, Adds, Removes, Removed, removal, shownSize, shownCells, Shows, Counts}
+
+-- ---- the empty book
+
+module _ where
+  abbrev zeros : List ℕ
+  zeros = replicate 10313 0
+
+  none : ((n : ℕ) → view zeros .tree .used n ≡ false) × Passes (view zeros .tree) []
+  none = empty-words (take 4681 zeros) (λ k h. getD-take 4681 zeros k 0 (omega arith) ∙ getD-replicate 10313 k 0 0 (omega arith))
+
+  none-listed : (u : ℕ → Bool) → ((n : ℕ) → u n ≡ false) → (n : ℕ) → listed u n ≡ []
+  none-listed u h zero = refl
+  none-listed u h (suc n) = ap (λ (b : Bool). putIf b n (listed u n)) (h n) ∙ none-listed u h n
+
+  no-leaves : leaves (view zeros) ≡ []
+  no-leaves = ap (map (leaf (view zeros))) (none-listed (taken (view zeros)) (λ r. none .0 (4096 + r)) 512)
+
+  pub empty-passes : Passing (replicate 10313 0)
+  empty-passes = record {
+    size = length-replicate {A = ℕ} 10313 0;
+    right = record { records = λ r u. absurd (true≢false u (none .0 (4096 + r))); tree = subst (λ xs. Passes (view zeros .tree) (ends xs)) (sym no-leaves) (none .1) };
+  }
+
+  pub empty-rules : rulesIn (replicate 10313 0) ≡ noRules
+  empty-rules = fun-ext (λ k. ap (λ (b : Bool). pickHeld b (rule (term (view zeros) (view zeros .place k))) nothing) (not-held k))
+    where
+      both-false : (a : Bool) → both a false ≡ false
+      both-false true = refl
+      both-false false = refl
+
+      not-held : (k : ℕ) → heldAt (view zeros) k ≡ false
+      not-held k =
+          ap (λ (b : Bool). both (ltb (view zeros .place k) 512) (both b (eqb (number (view zeros) (view zeros .place k)) k))) (none .0 (4096 + view zeros .place k))
+          ∙ both-false (ltb (view zeros .place k) 512)
+
+-- ---- one set of rules, within the limits
+
+pub record Limited (rules : Rules) : Type 0 where
+  pub few : ruleCount rules ≤ 512
+  pub nodes : nodesOf rules ≤ 4096
+  pub numbers : (k : ℕ) (t : List ℕ) → rules k ≡ rule t → k < 4096
+  pub whole : (k : ℕ) (t : List ℕ) → rules k ≡ rule t → IsTerm t
+
+-- The used nodes and the different beginnings of blank forms go together one by one.
+pub record Nodes (ws : List ℕ) : Type 0 where
+  pub row : (n : ℕ) → n < 4096 → Used (view ws .tree) n → (r : List ℕ) × Up (view ws .tree) (suc n) r × Begins (reverse r) (map formOf (terms (rulesIn ws)))
+  pub one-row : (n : ℕ) (r s : List ℕ) → Up (view ws .tree) (suc n) r → Up (view ws .tree) (suc n) s → r ≡ s
+  pub node : (r : List ℕ) → Begins (reverse r) (map formOf (terms (rulesIn ws))) → (n : ℕ) × (n < 4096) × Up (view ws .tree) (suc n) r
+  pub one-node : (m n : ℕ) (r : List ℕ) → Up (view ws .tree) (suc m) r → Up (view ws .tree) (suc n) r → m ≡ n
+
+module _ (ws : List ℕ) (p : Passing ws) where
+  long : length (take 4681 ws) ≡ 4681
+  long = omega (arith, length-take 4681 ws, p .size)
+
+  low : (n : ℕ) → Used (view ws .tree) n → n < 4608
+  low = used-low (take 4681 ws) long
+
+  pub limited : Limited (rulesIn ws)
+  limited = record {
+    few = omega (arith, count-tally (rulesIn ws), rules-tally (view ws) low (p .right), tally-le (taken (view ws)) 512);
+    nodes = omega (arith, nodes-tally (view ws) low (p .right), tally-le (view ws .tree .used) 4096);
+    numbers = number-low (view ws) low (p .right);
+    whole = whole;
+  }
+    where
+      whole : (k : ℕ) (t : List ℕ) → rulesIn ws k ≡ rule t → IsTerm t
+      whole k t e =
+          let a = holds-at (view ws) k t e in
+          let r = p .right .records (a .place) (a .used) in
+          subst IsTerm (append-nil _ ∙ a .is) (whole-alone (view ws .cells (a .place)) [] (view ws .size (a .place)) (r .whole)
+          ∙ ap Whole (sym (term-size (view ws) low (p .right) (a .place) (a .used)) ∙ ap length (sym (append-nil (term (view ws) (a .place))))))
+
+  begins : {q : List ℕ} {fs gs : List (List ℕ)} → ((f : List ℕ) → List·Memᴰ f fs → List·Memᴰ f gs) → Begins q fs → Begins q gs
+  begins h b = record { form = b .form; among = h (b .form) (b .among); rest = b .rest; is = b .is; not-empty = b .not-empty }
+
+  by : Numbered (view ws .tree) (bases (leaves (view ws)))
+  by = numbered (hanging (view ws) low (p .right))
+
+  pub its-nodes : Nodes ws
+  its-nodes = record {
+    row = λ n l u. let r = by .tree .rooted n u in (r .0, r .1, begins (λ f. base-forms (view ws) low (p .right) f .0) (by .begins n (r .0) l (r .1)));
+    one-row = λ n r s x y. up-same x y;
+    node = λ r b. by .node r (begins (λ f. base-forms (view ws) low (p .right) f .1) b);
+    one-node = λ m n r x y. let e = up-one (by .tree) x y in omega arith;
+  }
+
+  -- the count of set bits is the node count
+  pub bits-set : sum (bits (nodeMap (take 4681 ws))) ≡ nodesOf (rulesIn ws)
+  bits-set = nodes-held (take 4681 ws) long ∙ sym (nodes-tally (view ws) low (p .right))
+
+-- ---- one outcome
+
+pub empties-once : (ws a b : List ℕ) (r s : ℕ) → Empties ws a r → Empties ws b s → (r ≡ s) × (a ≡ b)
+empties-once ws a b r s x y = go (ℕ-discrete (length ws) 10313)
+  where
+    go : Dec (length ws ≡ 10313) → (r ≡ s) × (a ≡ b)
+    go (yes e) = (x .made e .0 ∙ sym (y .made e .0), x .made e .1 ∙ sym (y .made e .1))
+    go (no n) = (x .refused n .0 ∙ sym (y .refused n .0), x .refused n .1 ∙ sym (y .refused n .1))
+
+pub checks-once : (ws : List ℕ) (r s : Bool) → Checks ws r → Checks ws s → r ≡ s
+checks-once ws true true x y = refl
+checks-once ws true false x y = absurd (y .no refl (x .yes refl))
+checks-once ws false true x y = absurd (x .no refl (y .yes refl))
+checks-once ws false false x y = refl
+
+-- ---- the set of rules alone
+
+module _ (ws vs : List ℕ) (same : rulesIn ws ≡ rulesIn vs) where
+  pub adds-alike : (ws′ vs′ : List ℕ) (k : ℕ) (t : List ℕ) (r s : Added) → Adds ws ws′ k t r → Adds vs vs′ k t s → (r ≡ s) × (rulesIn ws′ ≡ rulesIn vs′)
+  adds-alike ws′ vs′ k t r s x y =
+      let e : r ≡ s = x .answer ∙ ap (λ (z : Rules). judged z k t) same ∙ sym (y .answer) in
+      (e, x .rules ∙ ap₂ (λ (a : Added) (z : Rules). after a z k t) e same ∙ sym (y .rules))
+
+  pub removes-alike : (ws′ vs′ : List ℕ) (k : ℕ) (r s : Removed) → Removes ws ws′ k r → Removes vs vs′ k s → (r ≡ s) × (rulesIn ws′ ≡ rulesIn vs′)
+  removes-alike ws′ vs′ k r s x y =
+      (x .answer ∙ ap (λ (z : Rules). removal (z k)) same ∙ sym (y .answer), x .rules ∙ ap (λ (z : Rules). withoutRule z k) same ∙ sym (y .rules))
+
+  pub shows-alike : (k : ℕ) (held held′ : Bool) (size size′ : ℕ) (cells cells′ : List ℕ) → Shows ws k held size cells → Shows vs k held′ size′ cells′ → (held ≡ held′) × (size ≡ size′) × (cells ≡ cells′)
+  shows-alike k held held′ size size′ cells cells′ x y = (
+    x .is-held ∙ ap (λ (z : Rules). isHeld (z k)) same ∙ sym (y .is-held),
+    x .sized ∙ ap (λ (z : Rules). shownSize (z k)) same ∙ sym (y .sized),
+    x .shown ∙ ap (λ (z : Rules). shownCells (z k)) same ∙ sym (y .shown),
+  )
+
+  pub counts-alike : (rules rules′ nodes nodes′ : ℕ) → Counts ws rules nodes → Counts vs rules′ nodes′ → (rules ≡ rules′) × (nodes ≡ nodes′)
+  counts-alike rules rules′ nodes nodes′ x y = (x .rules-are ∙ ap ruleCount same ∙ sym (y .rules-are), x .nodes-are ∙ ap nodesOf same ∙ sym (y .nodes-are))

@@ -1,0 +1,89 @@
+-- What lent memory holds, and when it passes: docs/BOOK.md, 'The check', line by line.
+use mathlib.Core.Path.{_≡_}
+use mathlib.Core.List.{List, [], _∷_, _++_, map}
+use mathlib.Core.Bool.{Bool, true, false}
+use Prim.Native.Nat.{ℕ, zero, suc, _+_, _*_, _≤_, _<_}
+use lib.Dec.{eqb, ltb}
+use lib.ListN.{length, getD, take, drop}
+use Rattle.bits.specs.Packed.{fields}
+use Rattle.term.specs.Cells.{blankOf, numberOf}
+use Rattle.term.specs.Reading.{readTerm}
+use Rattle.term.specs.declared.reading.Reading.the-variants.{Whole}
+use Rattle.term.specs.Beginnings.{both}
+use Rattle.tree.specs.Shape.{Shape, Passes}
+use Rattle.tree.specs.Words.{shape}
+use Rattle.tree.specs.Tallies.{listed}
+use Rattle.tree.specs.Leaves.{Leaf, ends}
+use Rattle.book.specs.Rules.{Held, nothing, rule, Rules, pickHeld}
+
+-- What memory says: the tree with the rules that hang in it, and for each rule number the place of its record, for each
+-- place the length of the term there and 32 cells.
+pub record View : Type 0 where
+  pub tree : Shape
+  pub place : ℕ → ℕ
+  pub size : ℕ → ℕ
+  pub cells : ℕ → List ℕ
+
+-- The words: 4,681 of the tree, 1,024 of places, four to a word, and 512 records of 9: the length, and 32 cells, four to a word.
+abbrev pub view : List ℕ → View
+view ws = record {
+  tree = shape (take 4681 ws);
+  place = λ k. getD (fields (take 1024 (drop 4681 ws))) k 0;
+  size = λ r. getD ws (5705 + 9 * r) 0;
+  cells = λ r. fields (take 8 (drop (5706 + 9 * r) ws));
+}
+
+-- A term's blank form as the tree has it: 32,768 for each variable.
+abbrev pub blankNumber : ℕ → ℕ
+blankNumber c = numberOf (blankOf c)
+
+abbrev pub formOf : List ℕ → List ℕ
+formOf t = map blankNumber t
+
+module _ (v : View) where
+  -- Does a rule have the place r, what is its number, what is its term?
+  abbrev pub taken : ℕ → Bool
+  taken r = v .tree .used (4096 + r)
+
+  abbrev pub number : ℕ → ℕ
+  number r = v .tree .cell (4096 + r)
+
+  abbrev pub term : ℕ → List ℕ
+  term r = take (v .size r) (v .cells r)
+
+  abbrev pub form : ℕ → List ℕ
+  form r = formOf (term r)
+
+  abbrev pub leaf : ℕ → Leaf
+  leaf r = record { slot = r; form = form r; number = number r }
+
+  abbrev pub leaves : List Leaf
+  leaves = map leaf (listed taken 512)
+
+  -- The set of rules: number k has the rule at its place, if that place is taken by a rule of number k.
+  abbrev pub heldAt : ℕ → Bool
+  heldAt k = both (ltb (v .place k) 512) (both (taken (v .place k)) (eqb (number (v .place k)) k))
+
+  abbrev pub rulesOf : Rules
+  rulesOf k = pickHeld (heldAt k) (rule (term (v .place k))) nothing
+
+  -- A record is right: its number is below 4,096 and leads back to it, its cells are one whole term of its length, and zeros.
+  pub record Recorded (r : ℕ) : Type 0 where
+    pub low : number r < 4096
+    pub found : v .place (number r) ≡ r
+    pub whole : readTerm (v .cells r) ≡ Whole (v .size r)
+    pub clean : (i : ℕ) → v .size r ≤ i → getD (v .cells r) i 0 ≡ 0
+
+  -- Each place that is taken has a record that is right, and the tree is exactly that of these rules.
+  pub record Right : Type 0 where
+    pub records : (r : ℕ) → taken r ≡ true → Recorded r
+    pub tree : Passes (v .tree) (ends leaves)
+
+-- Memory passes: it has the fixed length, and what it says is right.
+pub record Passing (ws : List ℕ) : Type 0 where
+  pub size : length ws ≡ 10313
+  pub right : Right (view ws)
+
+-- The rules that it holds.
+abbrev pub rulesIn : List ℕ → Rules
+rulesIn ws = rulesOf (view ws)

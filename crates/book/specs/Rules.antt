@@ -1,0 +1,81 @@
+-- The rules that a book holds, and what the paper counts of them: 01, 'The book' and refusals 6 to 9.
+use mathlib.Core.Path.{_≡_}
+use mathlib.Core.List.{List, [], _∷_, _++_, map}
+use mathlib.Core.Bool.{Bool, true, false}
+use Prim.Native.Nat.{ℕ, zero, suc, _+_}
+use lib.Dec.{eqb, leb, ltb}
+use lib.ListN.{length}
+use Rattle.term.specs.Beginnings.{nodeCount}
+pub use Rattle.book.specs.declared.Added.{Added}
+pub use Rattle.book.specs.declared.Added.the-variants.{Taken, HeldAlready, BookFull, NoNodes}
+
+-- Under a number there is nothing, or a rule with its term, variables kept.
+pub data Held : Type 0 where
+  nothing : Held
+  rule : (term : List ℕ) → Held
+
+-- A set of rules: each number 0 to 4,095 has at most one.
+abbrev pub Rules : Type 0
+Rules = ℕ → Held
+
+abbrev pub isHeld : Held → Bool
+isHeld nothing = false
+isHeld (rule term) = true
+
+abbrev pub termsOf : Held → List (List ℕ)
+termsOf nothing = []
+termsOf (rule term) = term ∷ []
+
+abbrev pub pickHeld : Bool → Held → Held → Held
+pickHeld true a b = a
+pickHeld false a b = b
+
+-- No rules; one more; one less.
+abbrev pub noRules : Rules
+noRules k = nothing
+
+abbrev pub withRule : Rules → ℕ → List ℕ → Rules
+withRule rules k term j = pickHeld (eqb j k) (rule term) (rules j)
+
+abbrev pub withoutRule : Rules → ℕ → Rules
+withoutRule rules k j = pickHeld (eqb j k) nothing (rules j)
+
+-- What f gives for each of n numbers from k on, ascending.
+unfoldable pub each : {A : Type 0} → (ℕ → List A) → (n k : ℕ) → List A
+each f zero k = []
+each f (suc n) k = f k ++ each f n (suc k)
+
+-- The terms of all rules, ascending by number; how many rules there are; and their node count.
+abbrev pub terms : Rules → List (List ℕ)
+terms rules = each (λ k. termsOf (rules k)) 4096 0
+
+abbrev pub ruleCount : Rules → ℕ
+ruleCount rules = length (terms rules)
+
+abbrev pub nodesOf : Rules → ℕ
+nodesOf rules = nodeCount (terms rules)
+
+-- The paper's number of each answer to an add.
+abbrev pub addRefusal : Added → ℕ
+addRefusal Taken = 0
+addRefusal HeldAlready = 6
+addRefusal BookFull = 8
+addRefusal NoNodes = 9
+
+abbrev pub pickAdded : Bool → Added → Added → Added
+pickAdded true a b = a
+pickAdded false a b = b
+
+-- An add is judged in the order 6, 8, 9: number already held; 512 rules held; node count with the rule above 4,096.
+abbrev pub judged : Rules → ℕ → List ℕ → Added
+judged rules k term =
+    pickAdded (isHeld (rules k)) HeldAlready
+    (pickAdded (leb 512 (ruleCount rules)) BookFull
+    (pickAdded (ltb 4096 (nodesOf (withRule rules k term))) NoNodes Taken))
+
+-- The rules after an add.
+abbrev pub after : Added → Rules → ℕ → List ℕ → Rules
+after Taken rules k term = withRule rules k term
+after HeldAlready rules k term = rules
+after BookFull rules k term = rules
+after NoNodes rules k term = rules

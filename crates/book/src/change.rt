@@ -1,0 +1,59 @@
+// One rule more, one rule less.
+ghost use mathlib.Core.Path.{_≡_};
+ghost use Prim.Native.Nat.{_<_, _≤_};
+ghost use lib.ListN.{length};
+ghost use Rattle.book.specs.Memory.{Passing, view};
+ghost use Rattle.book.specs.Promises.{IsTerm, Adds, Removes, Stores};
+use crate::Added;
+use crate::Removed;
+
+// Adds a rule. All refusals are decided before anything is written.
+pub fn add(m: &mut [u64], number: u16, term: &[u16]) -> Added
+    requires { ⌜ Passing (now m) ⌝ }
+    requires { ⌜ number < 4096 ⌝ }
+    requires { ⌜ IsTerm (now term) ⌝ }
+    ensures { λ r. ⌜ Adds (now (m .entry)) (now (m .exit)) number (now (term .entry)) r ⌝ }
+{
+    if crate::place_of(m, number) != crate::Book::RULES {
+        return Added::HeldAlready;
+    }
+    let r = bits::lowest_free(&m[64..72]);
+    if r == crate::Book::RULES {
+        return Added::BookFull;
+    }
+    let n = term.len();
+    let row = crate::record::row(term, n, number);
+    let last = tree::plant(&mut m[0..4681], &row[0..n]);
+    if last == 0 {
+        return Added::NoNodes;
+    }
+    tree::hang(&mut m[0..4681], last, r, crate::wide(number));
+    put_record(m, r, number, term);
+    Added::Taken
+}
+
+// Writes the place of a number, and the record there.
+fn put_record(m: &mut [u64], r: usize, number: u16, term: &[u16])
+    requires { ⌜ (length (now m) ≡ 10313) × (r < 512) × (number < 4096) × (length (now term) ≤ 32) ⌝ }
+    ensures { λ _. ⌜ Stores (view (now (m .entry))) (view (now (m .exit))) number r (now (term .entry)) ⌝ }
+{
+    bits::put_field(&mut m[4681..5705], crate::size_of(number), r as u16);
+    let at = 5706 + 9 * r;
+    let end = at + 8;
+    m[at - 1] = term.len() as u64;
+    crate::record::store(&mut m[at..end], term);
+}
+
+// Removes the rule of a number, with the nodes that no other rule needs.
+pub fn remove(m: &mut [u64], number: u16) -> Removed
+    requires { ⌜ Passing (now m) ⌝ }
+    requires { ⌜ number < 4096 ⌝ }
+    ensures { λ r. ⌜ Removes (now (m .entry)) (now (m .exit)) number r ⌝ }
+{
+    let r = crate::place_of(m, number);
+    if r == crate::Book::RULES {
+        return Removed::NotHeld;
+    }
+    tree::trim(&mut m[0..4681], crate::Book::NODES + r);
+    Removed::Gone
+}

@@ -1,0 +1,139 @@
+// The rule book in lent memory of 10,313 words.
+//
+//   word 0 to 4,680       the tree: the node map (64 words), the rule map (8), the root and the nodes, and behind them
+//                         the rules, which hang below the last nodes of their forms (crate `tree`)
+//   word 4,681 to 5,704   places: for each rule number the place of its record, four to a word
+//   word 5,705 + 9 r      the record at the place r: the length of the term, and 8 words with its 32 cells
+//
+// A place of a number means something only where the rule there has that number, so removing a rule writes neither
+// places nor records.
+pub mod change;
+pub mod check;
+pub mod record;
+
+ghost use mathlib.Core.Path.{_≡_};
+ghost use Prim.Native.Nat.{_<_};
+ghost use lib.ListN.{length};
+ghost use Rattle.book.specs.Memory.{Passing, heldAt, view};
+ghost use Rattle.book.specs.Promises.{IsTerm, Empties, Checks, Adds, Removes, Shows, Counts, pickPlace, RecordChecked};
+
+// What an add answers: the rule is taken; its number is held already (6); 512 rules are held (8); there would be more
+// than 4,096 nodes (9).
+pub enum Added {
+    Taken,
+    HeldAlready,
+    BookFull,
+    NoNodes,
+}
+
+// What a remove answers: the rule is gone; its number was not held (7).
+pub enum Removed {
+    Gone,
+    NotHeld,
+}
+
+// A rule as it is shown: is there one, the length of its term, and its cells, zeros past the term.
+pub struct Shown {
+    pub held: bool,
+    pub size: usize,
+    pub cells: [u16; 32],
+}
+
+// Rules held and node count.
+pub struct Counted {
+    pub rules: usize,
+    pub nodes: usize,
+}
+
+// The book's numbers and how an empty one is made. The memory is lent by each caller, so there is nothing to hold here.
+pub struct Book {}
+
+impl Book {
+    // The fixed length of a book's memory, in words.
+    pub const WORDS: usize = 10313;
+    // How many rules a book holds at the most.
+    pub const RULES: usize = 512;
+    // How many nodes.
+    pub const NODES: usize = 4096;
+    // The mark of a blank.
+    pub const MARK: u16 = 0x8000;
+
+    // An empty book: 0, or 1 on a wrong length.
+    pub fn empty(m: &mut [u64]) -> u64
+        ensures { λ r. ⌜ Empties (now (m .entry)) (now (m .exit)) r ⌝ }
+    {
+        if m.len() != Book::WORDS {
+            return 1;
+        }
+        let mut i: usize = 0;
+        while i < m.len() {
+            m[i] = 0;
+            i += 1;
+        }
+        0
+    }
+}
+
+fn wide(x: u16) -> u64
+    ensures { λ r. ⌜ r ≡ x ⌝ }
+{
+    x as u64
+}
+
+fn size_of(x: u16) -> usize
+    ensures { λ r. ⌜ r ≡ x ⌝ }
+{
+    x as usize
+}
+
+// The place of a number's record, or 512 where the number is not held.
+pub fn place_of(m: &[u64], number: u16) -> usize
+    requires { ⌜ (length (now m) ≡ 10313) × (number < 4096) ⌝ }
+    ensures { λ r. ⌜ r ≡ pickPlace (heldAt (view (now (m .entry))) number) (view (now (m .entry)) .place number) ⌝ }
+{
+    let r = size_of(bits::field(&m[4681..5705], size_of(number)));
+    if Book::RULES <= r {
+        return Book::RULES;
+    }
+    if !bits::is_marked(&m[64..72], r) {
+        return Book::RULES;
+    }
+    if tree::cell_of(m[4169 + r]) != wide(number) {
+        return Book::RULES;
+    }
+    r
+}
+
+// The rule under a number.
+pub fn show(m: &[u64], number: u16) -> Shown
+    requires { ⌜ Passing (now m) ⌝ }
+    requires { ⌜ number < 4096 ⌝ }
+    ensures { λ r. ⌜ Shows (now (m .entry)) number (r .held) (r .size) (r .cells) ⌝ }
+{
+    let r = place_of(m, number);
+    if r == Book::RULES {
+        return Shown {
+            held: false,
+            size: 0,
+            cells: [0; 32],
+        };
+    }
+    let at = 5706 + 9 * r;
+    let end = at + 8;
+    let cells = record::load(&m[at..end]);
+    Shown {
+        held: true,
+        size: m[at - 1] as usize,
+        cells,
+    }
+}
+
+// How full the book is.
+pub fn room(m: &[u64]) -> Counted
+    requires { ⌜ Passing (now m) ⌝ }
+    ensures { λ r. ⌜ Counts (now (m .entry)) (r .rules) (r .nodes) ⌝ }
+{
+    let nodes = bits::count(&m[0..64]);
+    let rules = bits::count(&m[64..72]);
+    Counted { rules, nodes }
+}

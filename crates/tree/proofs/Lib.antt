@@ -1,0 +1,7 @@
+-- Why the code does what it promises.
+pub mod Stores
+pub mod Walking
+pub mod Growing
+pub mod Trimming
+pub mod Climbing
+pub mod Visiting

@@ -1,0 +1,129 @@
+-- A walk along the children of a link stops at the place of a cell; a walk down from the root follows the cells of a form
+use mathlib.Core.Path.{_≡_, refl, sym, ap, _∙_, subst}
+use mathlib.Core.Logic.{_⊎_, inl, inr}
+use mathlib.Core.List.{List, [], _∷_, reverse, reverse-append}
+use Prim.Native.Nat.{ℕ, zero, suc, _+_, _-_, _≤_, _<_}
+use native.Mathlib.Numerals.{add-one}
+use native.Mathlib.Omega.{arith}
+use lib.ListN.{length, getD, take}
+use lib.Seq.{take-suc}
+use Rattle.tree.specs.Basics.{up-live}
+use Rattle.tree.specs.Shape.{Shape, Place, child, after, Used, Valid, to, owner, floor, Up, top, down, Tree}
+use Rattle.tree.specs.Order.{ahead}
+use Rattle.tree.specs.Change.{Sorted}
+use Rattle.tree.specs.Words.{cellOf, firstOf, nextOf, word, shape, place}
+use Rattle.tree.specs.Promises.{Sound, Found, Absent, Descended}
+use Rattle.tree.specs.Needs.{Ready}
+use Rattle.tree.specs.Limits.{used-low, live-low, place-low}
+
+-- ---- along the children of p: behind b, and x comes next
+
+pub record Walk (ws : List ℕ) (p b c x : ℕ) : Type 0 where
+  pub valid : Valid (shape ws) (place p b)
+  pub under : owner (shape ws) (place p b) ≡ p
+  pub above : floor (shape ws) (place p b) ≤ c
+  pub leads : to (shape ws) (place p b) ≡ x
+  pub low : x ≤ 4608
+
+-- where a link leads there is a node of the memory
+link-low : (ws : List ℕ) → length ws ≡ 4681 → Tree (shape ws) → (s : Place) → Valid (shape ws) s → (x : ℕ) → to (shape ws) s ≡ x → x ≤ 4608
+link-low ws size t s v zero e = omega arith
+link-low ws size t s v (suc k) e = used-low ws size k (t .goes s v e .used)
+
+pub walk-start : (ws : List ℕ) (p c x : ℕ) → Ready ws p → x ≡ firstOf (word ws p) → Walk ws p 0 c x
+walk-start ws p c x r e =
+    record { valid = r .live; under = refl; above = omega arith; leads = sym e; low = link-low ws (r .size) (r .tree) (child p) (r .live) x (sym e) }
+
+module _ (ws : List ℕ) (size : length ws ≡ 4681) (t : Tree (shape ws)) (p b c : ℕ) where
+  pub walk-on : (x v y : ℕ) → ¬ (x ≡ 0) → Walk ws p b c x → v ≡ cellOf (word ws x) → v < c → y ≡ nextOf (word ws x) → Walk ws p x c y
+  walk-on zero v y h w e l f = absurd (h refl)
+  walk-on (suc k) v y h w e l f =
+      let g = t .goes (place p b) (w .valid) (w .leads) in
+      record { valid = g .used; under = g .under ∙ w .under; above = omega arith; leads = sym f; low = link-low ws size t (after k) (g .used) y (sym f) }
+
+  pub walk-less : (x v : ℕ) → ¬ (x ≡ 0) → Walk ws p b c x → v ≡ cellOf (word ws x) → v < c → c - floor (shape ws) (place p x) < c - floor (shape ws) (place p b)
+  walk-less zero v h w e l = absurd (h refl)
+  walk-less (suc k) v h w e l = let g = t .goes (place p b) (w .valid) (w .leads) in omega (arith, g .above)
+
+  pub walk-found : (x v : ℕ) → ¬ (x ≡ 0) → Walk ws p b c x → v ≡ cellOf (word ws x) → c ≤ v → Found (shape ws) p b c
+  walk-found zero v h w e l = absurd (h refl)
+  walk-found (suc k) v h w e l = record {
+    valid = w .valid;
+    under = w .under;
+    above = w .above;
+    below = λ {k = y} q. let d : k ≡ y = omega (arith, sym (w .leads) ∙ q) in subst (λ (z : ℕ). c ≤ shape ws .cell z) d (rw e at l);
+  }
+
+  pub walk-end : (x : ℕ) → x ≡ 0 → Walk ws p b c x → Found (shape ws) p b c
+  walk-end x e w = record { valid = w .valid; under = w .under; above = w .above; below = λ q. absurd (omega (arith, sym (w .leads) ∙ q)) }
+
+-- ---- what was found
+
+module _ {m : Shape} (t : Tree m) {p b c : ℕ} (f : Found m p b c) where
+  -- where no child has the cell, the place is the sorted one
+  pub found-sorted : Absent m p c → Sorted m (place p b) c
+  found-sorted h = record {
+    valid = f .valid;
+    above = f .above;
+    below = λ {x} e. let g = t .goes (place p b) (f .valid) e in let d = h x (g .used) (g .under ∙ f .under) in omega (arith, f .below e);
+  }
+
+  -- where a child has it, it comes next
+  pub found-child : (n : ℕ) → Used m n → m .parent n ≡ p → m .cell n ≡ c → to m (place p b) ≡ suc n
+  found-child n u e d = go (q .2)
+    where
+      q : (k : ℕ) × (to m (place p b) ≡ suc k) × ((k ≡ n) ⊎ (m .cell k < m .cell n))
+      q = ahead m t (place p b) (f .valid) n u (e ∙ sym (f .under)) (omega (arith, f .above))
+
+      go : (q .0 ≡ n) ⊎ (m .cell (q .0) < m .cell n) → to m (place p b) ≡ suc n
+      go (inl x) = q .1 ∙ ap suc x
+      go (inr x) = absurd (omega (arith, f .below (q .1)))
+
+-- ---- down from the root: i cells have nodes, down to l
+
+pub record Descending (m : Shape) (form : List ℕ) (l i : ℕ) : Type 0 where
+  pub within : i ≤ length form
+  pub at : Up m l (reverse (take i form))
+
+pub descend-start : (m : Shape) (form : List ℕ) → Descending m form 0 0
+descend-start m form = record { within = omega arith; at = top }
+
+pub descend-all : {m : Shape} {form : List ℕ} {l i : ℕ} → length form ≤ i → Descending m form l i → Descended m form l i
+descend-all h d = record { within = d .within; at = d .at; absent = λ q. absurd (omega arith) }
+
+pub take-next : (form : List ℕ) (i : ℕ) → i < length form → reverse (take (suc i) form) ≡ getD form i 0 ∷ reverse (take i form)
+take-next form i h = ap reverse (take-suc form i 0 h) ∙ reverse-append (take i form) (getD form i 0 ∷ [])
+
+module _ (ws form : List ℕ) (s : Sound ws) (l i : ℕ) (d : Descending (shape ws) form l i) where
+  pub descend-ready : Ready ws l
+  descend-ready = record { size = s .size; tree = s .tree; live = up-live (d .at) }
+
+  module _ (hi : i < length form) (b c x : ℕ) (ec : c ≡ getD form i 0) (f : Found (shape ws) l b c) where
+    pub descend-low : (l ≤ 4608) × (b ≤ 4608)
+    descend-low = (live-low ws (s .size) l (up-live (d .at)), place-low ws (s .size) l b (f .valid))
+
+    module _ (e : to (shape ws) (place l b) ≡ x) where
+      pub next-low : x ≤ 4608
+      next-low = link-low ws (s .size) (s .tree) (place l b) (f .valid) x e
+
+      -- the child that would have the cell is the one that comes next
+      stop : ((k : ℕ) → x ≡ suc k → ¬ (shape ws .cell k ≡ c)) → Descended (shape ws) form l i
+      stop h = record { within = d .within; at = d .at; absent = λ q n u p r. h n (sym e ∙ found-child (s .tree) f n u p (r ∙ sym ec)) (r ∙ sym ec) }
+
+      pub descend-none : x ≡ 0 → Descended (shape ws) form l i
+      descend-none z = stop (λ k q. absurd (omega arith))
+
+      pub descend-other : (v : ℕ) → v ≡ cellOf (word ws x) → ¬ (v ≡ c) → Descended (shape ws) form l i
+      descend-other v h n = stop (λ k q r. n (h ∙ ap (λ (y : ℕ). cellOf (word ws y)) q ∙ r))
+
+      pub descend-on : (v : ℕ) → ¬ (x ≡ 0) → v ≡ cellOf (word ws x) → v ≡ c → Descending (shape ws) form x (i + 1)
+      descend-on v n h q = go x refl
+        where
+          go : (y : ℕ) → x ≡ y → Descending (shape ws) form x (i + 1)
+          go zero z = absurd (n z)
+          go (suc k) z =
+              let g = s .tree .goes (place l b) (f .valid) (e ∙ z) in
+              let cell : shape ws .cell k ≡ getD form i 0 = sym (ap (λ (y : ℕ). cellOf (word ws y)) z) ∙ sym h ∙ q ∙ ec in
+              let above = subst (λ (y : ℕ). Up (shape ws) y (reverse (take i form))) (sym (g .under ∙ f .under)) (d .at) in
+              let up = subst (λ (r : List ℕ). Up (shape ws) (suc k) r) (sym (take-next form i hi)) (down (g .used) cell above) in
+              rw (add-one i) (record { within = hi; at = subst (λ (y : ℕ). Up (shape ws) y (reverse (take (suc i) form))) (sym z) up })

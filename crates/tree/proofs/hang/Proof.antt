@@ -1,0 +1,32 @@
+-- The place that `find` finds for the number is sorted, since no rule there has it; so the rule is linked in
+use native.Mathlib.Omega.{arith}
+use borrow.Author.Needs.{needs}
+use Rattle.tree.specs.Limits.{live-low, place-low}
+use Rattle.tree.proofs.Walking.{found-sorted}
+use Rattle.tree.proofs.hang.Statement.{statement}
+use Rattle.tree.proofs.hang.Tie as tie
+
+link-requires : tie.Need-link-requires
+link-requires c κs =
+    let s = c .before .before .before .before in
+    let f = c .before .find .ensures in
+    record {
+      size = s .pre .sound .size;
+      owner = live-low (s .args .m .now) (s .pre .sound .size) (s .args .p) (s .pre .live);
+      sibling = place-low (s .args .m .now) (s .pre .sound .size) (s .args .p) (c .before .find .result) (f .valid);
+      node = (let l = s .pre .place in omega arith);
+      cell = (let l = s .pre .low in omega arith);
+      free = s .pre .free;
+      valid = f .valid;
+      under = f .under;
+    }
+
+returns : tie.Need-returns
+returns c =
+    let c₁ = c .before .before .before .before in
+    let f = c₁ .find .ensures in
+    let s = c₁ .before .before .before in
+    record { at = _; below = f .under; sorted = found-sorted (s .pre .sound .tree) f (s .pre .absent); links = c .before .before .link .ensures }
+
+pub hang-spec : {M : Type 1} → statement M
+hang-spec = tie.close (tie.spec (λ c κs. search needs) (λ c. search needs) link-requires (λ c. search needs) returns)

@@ -1,0 +1,56 @@
+-- What the inner functions ask for, and promise to each other
+use mathlib.Core.Path.{_≡_}
+use mathlib.Core.Logic.{_⊎_, _↔_}
+use mathlib.Core.List.{List}
+use mathlib.Core.Bool.{Bool, true, false}
+use Prim.Native.Nat.{ℕ, suc, _+_, _≤_, _<_}
+use lib.ListN.{length, getD}
+use Rattle.tree.specs.Shape.{Shape, Place, child, after, Used, Live, Valid, Goes, Tree}
+use Rattle.tree.specs.Shape as shapes
+use Rattle.tree.specs.Change.{Unlinks}
+use Rattle.tree.specs.Tally.{tally}
+use Rattle.tree.specs.Words.{shape, place}
+use Rattle.tree.specs.Promises.{Marked, Absent}
+
+-- a walk among the children of p
+pub record Ready (ws : List ℕ) (p : ℕ) : Type 0 where
+  pub size : length ws ≡ 4681
+  pub tree : Tree (shape ws)
+  pub live : Live (shape ws) p
+
+-- a place of p for the free node n with the cell c
+pub record Room (ws : List ℕ) (p b n c : ℕ) : Type 0 where
+  pub size : length ws ≡ 4681
+  pub owner : p ≤ 4608
+  pub sibling : b ≤ 4608
+  pub node : n < 4608
+  pub cell : c < 65536
+  pub free : shape ws .used n ≡ false
+  pub valid : Valid (shape ws) (place p b)
+  pub under : shapes.owner (shape ws) (place p b) ≡ p
+
+-- the cells of the form from i on are to grow under l, and there is room for them
+pub record Growing (ws : List ℕ) (l : ℕ) (form : List ℕ) (i : ℕ) : Type 0 where
+  pub size : length ws ≡ 4681
+  pub tree : Tree (shape ws)
+  pub live : Live (shape ws) l
+  pub absent : i < length form → Absent (shape ws) l (getD form i 0)
+  pub room : tally (shape ws .used) 4096 + length form ≤ 4096 + i
+  pub within : i ≤ length form
+
+pub record Leaf (ws : List ℕ) (n : ℕ) : Type 0 where
+  pub size : length ws ≡ 4681
+  pub node : n < 4608
+  pub tree : Tree (shape ws)
+  pub used : Used (shape ws) n
+  pub leaf : shape ws .first (suc n) ≡ 0
+
+pub record Unlinked (m m′ : Shape) (n : ℕ) : Type 0 where
+  pub at : Place
+  pub unlinks : Unlinks m m′ at n
+
+-- both places of the node n go well; then the nodes that they lead to are marked
+pub record Noded (m : Shape) (map map′ : List ℕ) (n : ℕ) (r : Bool) : Type 0 where
+  pub yes : r ≡ true → Goes m (child (suc n)) × Goes m (after n)
+  pub no : r ≡ false → ¬ (Goes m (child (suc n)) × Goes m (after n))
+  pub marks : r ≡ true → (y : ℕ) → Marked map′ y ↔ (Marked map y ⊎ ((m .first (suc n) ≡ suc y) ⊎ (m .next n ≡ suc y)))

@@ -1,0 +1,80 @@
+-- What the functions promise
+use mathlib.Core.Path.{_≡_}
+use mathlib.Core.Logic.{_⊎_, _↔_}
+use mathlib.Core.List.{List, reverse}
+use mathlib.Core.Bool.{Bool, true, false}
+use Prim.Native.Nat.{ℕ, suc, _+_, _-_, _≤_, _<_}
+use lib.ListN.{length, getD, take, drop}
+use Rattle.tree.specs.Shape.{Shape, Place, Used, Live, Valid, to, owner, floor, Suits, Goes, Source, Up, On, Tree}
+use Rattle.tree.specs.Change.{Grown, Links, Sorted}
+use Rattle.tree.specs.Tally.{tally, marked}
+use Rattle.tree.specs.Words.{shape, place}
+
+-- the length of the memory, and a tree in it
+pub record Sound (ws : List ℕ) : Type 0 where
+  pub size : length ws ≡ 4681
+  pub tree : Tree (shape ws)
+
+-- the bit n of a map is set
+abbrev pub Marked : List ℕ → ℕ → Type 0
+Marked map n = marked map n ≡ true
+
+-- where a child of p with the cell c belongs: after the sibling b, or first where b is 0; such a child would come next
+pub record Found (m : Shape) (p b c : ℕ) : Type 0 where
+  pub valid : Valid m (place p b)
+  pub under : owner m (place p b) ≡ p
+  pub above : floor m (place p b) ≤ c
+  pub below : {k : ℕ} → to m (place p b) ≡ suc k → c ≤ m .cell k
+
+-- no child of l has the cell c
+abbrev pub Absent : Shape → ℕ → ℕ → Type 0
+Absent m l c = (n : ℕ) → Used m n → m .parent n ≡ l → ¬ (m .cell n ≡ c)
+
+-- i cells of the form have nodes, down to the link l, and the next has none
+pub record Descended (m : Shape) (form : List ℕ) (l i : ℕ) : Type 0 where
+  pub within : i ≤ length form
+  pub at : Up m l (reverse (take i form))
+  pub absent : i < length form → Absent m l (getD form i 0)
+
+-- The form has its nodes and `link` leads to the last; or it is 0, too many would be used, and nothing has changed
+pub record Planted (ws ws′ form : List ℕ) (link : ℕ) : Type 0 where
+  pub at : ℕ
+  pub depth : ℕ
+  pub descended : Descended (shape ws) form at depth
+  pub full : link ≡ 0 → (ws′ ≡ ws) × (4096 < tally (shape ws .used) 4096 + (length form - depth))
+  pub fits : ¬ (link ≡ 0) → tally (shape ws .used) 4096 + (length form - depth) ≤ 4096
+  pub grown : ¬ (link ≡ 0) → Grown (shape ws) at (reverse (drop depth form)) (shape ws′) link
+
+-- A rule's place r is free, and no rule below the link p has its number
+pub record Hangable (ws : List ℕ) (p r number : ℕ) : Type 0 where
+  pub sound : Sound ws
+  pub live : Live (shape ws) p
+  pub place : r < 512
+  pub free : shape ws .used (4096 + r) ≡ false
+  pub low : number < 4096
+  pub absent : Absent (shape ws) p number
+
+-- The rule r hangs below p, at its number's place
+pub record Hung (m m′ : Shape) (p r number : ℕ) : Type 0 where
+  pub at : Place
+  pub below : owner m at ≡ p
+  pub sorted : Sorted m at number
+  pub links : Links m m′ at number (4096 + r)
+
+-- Going up from the node `last` reads the form backwards and ends at the root; then the nodes on the way are marked
+pub record Climbed (m : Shape) (map map′ : List ℕ) (last : ℕ) (form : List ℕ) (r : Bool) : Type 0 where
+  pub yes : r ≡ true → Up m (suc last) (reverse form)
+  pub no : r ≡ false → ¬ (Up m (suc last) (reverse form))
+  pub marks : r ≡ true → (n : ℕ) → Marked map′ n ↔ (Marked map n ⊎ On m n (suc last))
+
+-- The link x is none, or that of a child of p with a cell of at least `low`, which is then marked
+pub record Visited (m : Shape) (map map′ : List ℕ) (x p low : ℕ) (r : Bool) : Type 0 where
+  pub yes : r ≡ true → (n : ℕ) → x ≡ suc n → Suits m p low n
+  pub no : r ≡ false → ¬ ((n : ℕ) → x ≡ suc n → Suits m p low n)
+  pub marks : r ≡ true → (y : ℕ) → Marked map′ y ↔ (Marked map y ⊎ (x ≡ suc y))
+
+-- Every link goes well; then the nodes that links lead to are marked
+pub record Targeted (m : Shape) (map : List ℕ) (r : Bool) : Type 0 where
+  pub yes : r ≡ true → (s : Place) → Valid m s → Goes m s
+  pub no : r ≡ false → ¬ ((s : Place) → Valid m s → Goes m s)
+  pub marks : r ≡ true → (y : ℕ) → Marked map y ↔ Source m y

@@ -1,0 +1,182 @@
+-- A search over the unfolded tree that keeps a state: it finds exactly the used nodes whose row is accepted, with one point a level on its list
+use mathlib.Core.Path.{_≡_, refl, sym, ap, _∙_, subst}
+use mathlib.Core.Logic.{_⊎_, inl, inr, _↔_}
+use mathlib.Core.List.{List, [], _∷_, _++_, map, append-assoc, reverse, reverse-cons, reverse-reverse, List·Memᴰ, List·Memᴰ·head, List·Memᴰ·tail, List·Memᴰ·cases-cons, List·Memᴰ·append-cases, List·Memᴰ·not-nil, Memᴰ·append-left, Memᴰ·append-right, Memᴰ·cast, Memᴰ·map}
+use mathlib.Core.Bool.{Bool, true, false}
+use Prim.Native.Nat.{ℕ, zero, suc, _+_, _≤_, _<_}
+use native.Mathlib.Omega.{arith}
+use Rattle.term.specs.Beginnings.{Distinct}
+use Rattle.tree.specs.Shape.{Shape, Used, Up, Tree, End, Passes}
+use Rattle.tree.specs.Rows.{up-same, passes-tree}
+use Rattle.tree.specs.Trie.{Trie, tip, node, trie, rows, height, Bounded, FUEL}
+use Rattle.tree.specs.Unfolded.{no-trie, opens, holds, node-once}
+
+abbrev pub keep : Bool → ℕ → List ℕ
+keep true n = n ∷ []
+keep false n = []
+
+abbrev pub size : Trie → ℕ
+size tip = 1
+size (node n l r) = suc (size l + size r)
+
+kept : (b : Bool) (n k : ℕ) → List·Memᴰ k (keep b n) → (k ≡ n) × (b ≡ true)
+kept true n k i = go (List·Memᴰ·cases-cons i)
+  where
+    go : (k ≡ n) ⊎ List·Memᴰ k [] → (k ≡ n) × (true ≡ true)
+    go (inl e) = (e, refl)
+    go (inr j) = absurd (List·Memᴰ·not-nil j)
+kept false n k i = absurd (List·Memᴰ·not-nil i)
+
+keeps : (b : Bool) (n : ℕ) → b ≡ true → List·Memᴰ n (keep b n)
+keeps true n e = List·Memᴰ·head refl
+keeps false n e = let z : _≡_ {A = ℕ} 0 1 = cc in absurd (omega arith)
+
+-- the state goes on by a node's cell, and a node is found where its state is good
+module _ {S : Type 0} (step : ℕ → S → S) (good : S → Bool) where
+  abbrev pub run : S → List ℕ → S
+  run s [] = s
+  run s (c ∷ r) = run (step c s) r
+
+  abbrev pub hits : Shape → S → Trie → List ℕ
+  hits m s tip = []
+  hits m s (node n l r) = keep (good (step (m .cell n) s)) n ++ (hits m (step (m .cell n) s) l ++ hits m s r)
+
+  -- the state after a row, which is read backwards
+  abbrev after-row : S → List ℕ → S
+  after-row s [] = s
+  after-row s (c ∷ r) = step c (after-row s r)
+
+  run-append : (s : S) (p r : List ℕ) → run s (p ++ r) ≡ run (run s p) r
+  run-append s [] r = refl
+  run-append s (c ∷ p) r = run-append (step c s) p r
+
+  after-run : (s : S) (r : List ℕ) → after-row s r ≡ run s (reverse r)
+  after-run s [] = refl
+  after-run s (c ∷ r) = ap (step c) (after-run s r) ∙ sym (ap (run s) (reverse-cons c r) ∙ run-append s (reverse r) (c ∷ []))
+
+  -- the nodes of a list of rows that are accepted
+  accepted : S → List (ℕ × List ℕ) → List ℕ
+  accepted s [] = []
+  accepted s (x ∷ xs) = keep (good (after-row s (x .1))) (x .0) ++ accepted s xs
+
+  accepted-append : (s : S) (xs ys : List (ℕ × List ℕ)) → accepted s (xs ++ ys) ≡ accepted s xs ++ accepted s ys
+  unfolding accepted
+  accepted-append s [] ys = refl
+  accepted-append s (x ∷ xs) ys = rw (accepted-append s xs ys) (sym (append-assoc (keep (good (after-row s (x .1))) (x .0)) (accepted s xs) (accepted s ys)))
+
+  hits-are : (m : Shape) (s : S) (p : List ℕ) (t : Trie) → hits m (after-row s p) t ≡ accepted s (rows m p t)
+  unfolding accepted
+  hits-are m s p tip = refl
+  hits-are m s p (node n l r) = rw (accepted-append s (rows m (m .cell n ∷ p) l) (rows m p r), ← (hits-are m s (m .cell n ∷ p) l), ← (hits-are m s p r)) refl
+
+  of-accepted : (s : S) (l : List (ℕ × List ℕ)) (n : ℕ) → List·Memᴰ n (accepted s l) → (r : List ℕ) × List·Memᴰ (n, r) l × (good (after-row s r) ≡ true)
+  unfolding accepted
+  of-accepted s [] n i = absurd (List·Memᴰ·not-nil i)
+  of-accepted s (x ∷ xs) n i = go (λ (j : List·Memᴰ n (accepted s xs)). of-accepted s xs n j) (List·Memᴰ·append-cases (keep (good (after-row s (x .1))) (x .0)) i)
+    where
+      go : (List·Memᴰ n (accepted s xs) → (r : List ℕ) × List·Memᴰ (n, r) xs × (good (after-row s r) ≡ true))
+          → List·Memᴰ n (keep (good (after-row s (x .1))) (x .0)) ⊎ List·Memᴰ n (accepted s xs) → (r : List ℕ) × List·Memᴰ (n, r) (x ∷ xs) × (good (after-row s r) ≡ true)
+      go ih (inl j) = let q = kept (good (after-row s (x .1))) (x .0) n j in (x .1, List·Memᴰ·head (ap (λ (z : ℕ). (z, x .1)) (q .0)), q .1)
+      go ih (inr j) = let q = ih j in (q .0, List·Memᴰ·tail (q .1), q .2)
+
+  to-accepted : (s : S) (l : List (ℕ × List ℕ)) (n : ℕ) (r : List ℕ) → List·Memᴰ (n, r) l → good (after-row s r) ≡ true → List·Memᴰ n (accepted s l)
+  unfolding accepted
+  to-accepted s (x ∷ xs) n r (List·Memᴰ·head e) h =
+      Memᴰ·append-left (accepted s xs) (Memᴰ·cast (ap (λ (z : ℕ × List ℕ). z .0) e) (keeps (good (after-row s (x .1))) (x .0) (ap (λ (z : ℕ × List ℕ). good (after-row s (z .1))) (sym e) ∙ h)))
+  to-accepted s (x ∷ xs) n r (List·Memᴰ·tail i) h = Memᴰ·append-right (keep (good (after-row s (x .1))) (x .0)) (to-accepted s xs n r i h)
+
+  -- what is accepted stands no more than once
+  accepted-distinct : (s : S) (l : List (ℕ × List ℕ)) → Distinct (map (λ x. x .0) l) → Distinct (accepted s l)
+  unfolding accepted
+  accepted-distinct s [] d = tt
+  accepted-distinct s (x ∷ xs) d = put (good (after-row s (x .1))) (accepted-distinct s xs (d .1))
+    where
+      put : (b : Bool) → Distinct (accepted s xs) → Distinct (keep b (x .0) ++ accepted s xs)
+      put true e = ((λ i. let q = of-accepted s xs (x .0) i in d .0 (Memᴰ·map (λ y. y .0) (q .1))), e)
+      put false e = e
+
+  module _ (m : Shape) (t : Tree m) (b : Bounded m) (s : S) where
+    abbrev pub found : List ℕ
+    found = hits m s (trie m (m .first 0))
+
+    -- what is found: the used nodes whose row, read forwards, leads to a good state
+    pub found-good : (n : ℕ) → List·Memᴰ n found → (r : List ℕ) × Up m (suc n) r × (good (run s (reverse r)) ≡ true)
+    found-good n i =
+        let q = of-accepted s (rows m [] (trie m (m .first 0))) n (subst (λ (l : List ℕ). List·Memᴰ n l) (hits-are m s [] (trie m (m .first 0))) i) in
+        (q .0, holds m t b n (q .0) .0 (q .1), ap good (sym (after-run s (q .0))) ∙ q .2)
+
+    pub good-found : (n : ℕ) (r : List ℕ) → Up m (suc n) r → good (run s (reverse r)) ≡ true → List·Memᴰ n found
+    good-found n r up h =
+        subst (λ (l : List ℕ). List·Memᴰ n l) (sym (hits-are m s [] (trie m (m .first 0))))
+        (to-accepted s (rows m [] (trie m (m .first 0))) n r (holds m t b n r .1 up) (ap good (after-run s r) ∙ h))
+
+    pub found-once : Distinct found
+    found-once = subst (λ (l : List ℕ). Distinct l) (sym (hits-are m s [] (trie m (m .first 0)))) (accepted-distinct s (rows m [] (trie m (m .first 0))) (node-once m t b))
+
+  -- an end's last node is found exactly when its form is accepted
+  pub end-found : (m : Shape) (ends : List End) (c : Passes m ends) (b : Bounded m) (s : S) (x : End) → List·Memᴰ x ends
+      → List·Memᴰ (x .last) (hits m s (trie m (m .first 0))) ↔ (good (run s (x .form)) ≡ true)
+  end-found m ends c b s x i = (
+    (λ j. let q = found-good m (passes-tree c) b s (x .last) j in
+        ap (λ (z : List ℕ). good (run s z)) (sym (reverse-reverse (x .form))) ∙ ap (λ (z : List ℕ). good (run s (reverse z))) (up-same (c .ways x i) (q .1)) ∙ q .2),
+    (λ h. good-found m (passes-tree c) b s (x .last) (reverse (x .form)) (c .ways x i) (ap (λ (z : List ℕ). good (run s z)) (reverse-reverse (x .form)) ∙ h)),
+  )
+
+  -- ---- the list of points: point j is the link at j with the state before it
+
+  module _ (m : Shape) where
+    -- what the first k points have yet to give, and the turns that they take
+    abbrev pub pending : ℕ → (ℕ → ℕ) → (ℕ → S) → List ℕ
+    pending zero at st = []
+    pending (suc k) at st = hits m (st k) (trie m (at k)) ++ pending k at st
+
+    abbrev pub work : ℕ → (ℕ → ℕ) → ℕ
+    work zero at = 0
+    work (suc k) at = size (trie m (at k)) + work k at
+
+    pub pending-same : (k : ℕ) {at at′ : ℕ → ℕ} {st st′ : ℕ → S} → ((j : ℕ) → j < k → at′ j ≡ at j) → ((j : ℕ) → j < k → st′ j ≡ st j)
+        → pending k at′ st′ ≡ pending k at st
+    pending-same zero ha hs = refl
+    pending-same (suc k) ha hs = rw (ha k (omega arith), hs k (omega arith), pending-same k (λ j h. ha j (omega arith)) (λ j h. hs j (omega arith)))
+
+    pub work-same : (k : ℕ) {at at′ : ℕ → ℕ} → ((j : ℕ) → j < k → at′ j ≡ at j) → work k at′ ≡ work k at
+    work-same zero ha = refl
+    work-same (suc k) ha = rw (ha k (omega arith), work-same k (λ j h. ha j (omega arith)))
+
+    module _ (t : Tree m) (b : Bounded m) (k : ℕ) (at : ℕ → ℕ) (st : ℕ → S) where
+      -- no node: the point goes
+      pub none-gives : at k ≡ 0 → pending (suc k) at st ≡ pending k at st
+      none-gives h = rw (h, no-trie m FUEL)
+
+      pub none-less : at k ≡ 0 → work k at < work (suc k) at
+      none-less h = rw (h, no-trie m FUEL) (omega arith)
+
+      module _ (n : ℕ) (e : at k ≡ suc n) (u : Used m n) where
+        opened : trie m (at k) ≡ node n (trie m (m .first (suc n))) (trie m (m .next n))
+        opened = ap (trie m) e ∙ opens m t b n u
+
+        -- the state fails: the sibling takes the node's place
+        pub fail-gives : {at′ : ℕ → ℕ} {st′ : ℕ → S} → at′ k ≡ m .next n → st′ k ≡ st k → ((j : ℕ) → j < k → at′ j ≡ at j) → ((j : ℕ) → j < k → st′ j ≡ st j)
+            → good (step (m .cell n) (st k)) ≡ false → ((x : Trie) → hits m (step (m .cell n) (st k)) x ≡ [])
+            → pending (suc k) at st ≡ pending (suc k) at′ st′
+        fail-gives hn hs ha hst ho hf = rw (opened, hn, hs, pending-same k ha hst, ho, hf (trie m (m .first (suc n))))
+
+        pub fail-less : {at′ : ℕ → ℕ} → at′ k ≡ m .next n → ((j : ℕ) → j < k → at′ j ≡ at j) → work (suc k) at′ < work (suc k) at
+        fail-less hn ha = rw (opened, hn, work-same k ha) (omega arith)
+
+        -- it goes on: the sibling takes the node's place, and the child comes on top
+        pub child-gives : {at′ : ℕ → ℕ} {st′ : ℕ → S} → at′ k ≡ m .next n → st′ k ≡ st k → at′ (suc k) ≡ m .first (suc n) → st′ (suc k) ≡ step (m .cell n) (st k)
+            → ((j : ℕ) → j < k → at′ j ≡ at j) → ((j : ℕ) → j < k → st′ j ≡ st j)
+            → pending (suc k) at st ≡ keep (good (step (m .cell n) (st k))) n ++ pending (suc (suc k)) at′ st′
+        child-gives hn hs hc hc′ ha hst = rw (opened, hn, hs, hc, hc′, pending-same k ha hst) (simp append-assoc)
+
+        pub child-less : {at′ : ℕ → ℕ} → at′ k ≡ m .next n → at′ (suc k) ≡ m .first (suc n) → ((j : ℕ) → j < k → at′ j ≡ at j)
+            → work (suc (suc k)) at′ < work (suc k) at
+        child-less hn hc ha = rw (opened, hn, hc, work-same k ha) (omega arith)
+
+        -- a point's number is its level
+        pub height-next : k + height (trie m (at k)) ≤ 33 → k + height (trie m (m .next n)) ≤ 33
+        height-next h = let g = rw opened at h in omega arith
+
+        pub height-child : k + height (trie m (at k)) ≤ 33 → suc k + height (trie m (m .first (suc n))) ≤ 33
+        height-child h = let g = rw opened at h in omega arith

@@ -1,0 +1,344 @@
+// The tree in lent memory of 4,681 words: one node for each different beginning of the forms that it holds, and the rules
+// below the last nodes of their forms.
+//
+//   word 0 to 63      the node map: node n is bit n % 64, the most significant first, of word n / 64
+//   word 64 to 71     the rule map: rule r is bit r % 64 of word 64 + r / 64
+//   word 72 + l       the link l: 0 is the root, n + 1 the node n
+//                     | cell | parent | first child | next sibling |   16 bits each
+//
+// The two maps are one: rule r hangs in the tree as the node 4,096 + r, and its number is its cell. Nodes of forms are below
+// 4,096, numbers of nodes below 4,608. Parent, first child and next sibling are links; 0 is the root or none. Siblings ascend
+// by cell.
+ghost use mathlib.Core.Path.{_≡_};
+ghost use mathlib.Core.List.{reverse};
+ghost use Prim.Native.Nat.{ℕ, suc, _<_, _≤_};
+ghost use lib.ListN.{length};
+ghost use Rattle.tree.specs.Shape.{Used, uses, to};
+ghost use Rattle.tree.specs.Change.{Links, Grown, Trimmed};
+ghost use Rattle.tree.specs.Effects.{Puts};
+ghost use Rattle.tree.specs.Words.{cellOf, parentOf, firstOf, nextOf, Node, shape, place};
+ghost use Rattle.tree.specs.Promises.{Sound, Marked, Found, Descended, Planted, Hangable, Hung, Climbed, Visited, Targeted};
+ghost use Rattle.tree.specs.Needs.{Ready, Room, Growing, Leaf, Unlinked, Noded};
+
+// ---- the word of a link
+
+pub fn cell_of(w: u64) -> u64
+    ensures { λ r. ⌜ r ≡ cellOf w ⌝ }
+{
+    w / 281474976710656
+}
+
+pub fn parent_of(w: u64) -> u64
+    ensures { λ r. ⌜ r ≡ parentOf w ⌝ }
+{
+    w / 4294967296 % 65536
+}
+
+pub fn first_of(w: u64) -> u64
+    ensures { λ r. ⌜ r ≡ firstOf w ⌝ }
+{
+    w / 65536 % 65536
+}
+
+pub fn next_of(w: u64) -> u64
+    ensures { λ r. ⌜ r ≡ nextOf w ⌝ }
+{
+    w % 65536
+}
+
+fn pack(c: u64, p: u64, f: u64, x: u64) -> u64
+    requires { ⌜ c < 65536 ⌝ }
+    requires { ⌜ p < 65536 ⌝ }
+    requires { ⌜ f < 65536 ⌝ }
+    requires { ⌜ x < 65536 ⌝ }
+    ensures { λ r. ⌜ Node r c p f x ⌝ }
+{
+    c * 281474976710656 + p * 4294967296 + f * 65536 + x
+}
+
+fn with_first(w: u64, x: u64) -> u64
+    requires { ⌜ x < 65536 ⌝ }
+    ensures { λ r. ⌜ Node r (cellOf w) (parentOf w) x (nextOf w) ⌝ }
+{
+    w / 4294967296 * 4294967296 + x * 65536 + w % 65536
+}
+
+fn with_next(w: u64, x: u64) -> u64
+    requires { ⌜ x < 65536 ⌝ }
+    ensures { λ r. ⌜ Node r (cellOf w) (parentOf w) (firstOf w) x ⌝ }
+{
+    w / 65536 * 65536 + x
+}
+
+fn wide(x: u16) -> u64
+    ensures { λ r. ⌜ r ≡ x ⌝ }
+{
+    x as u64
+}
+
+// ---- places: among the children of p the one after the sibling b, or the first where b is 0
+
+fn get_link(m: &[u64], p: usize, b: usize) -> usize
+    requires { ⌜ length (now m) ≡ 4681 ⌝ }
+    requires { ⌜ p ≤ 4608 ⌝ }
+    requires { ⌜ b ≤ 4608 ⌝ }
+    ensures { λ r. ⌜ to (shape (now (m .entry))) (place p b) ≡ r ⌝ }
+{
+    if b == 0 {
+        first_of(m[72 + p]) as usize
+    } else {
+        next_of(m[72 + b]) as usize
+    }
+}
+
+fn put_link(m: &mut [u64], p: usize, b: usize, x: u64)
+    requires { ⌜ length (now m) ≡ 4681 ⌝ }
+    requires { ⌜ p ≤ 4608 ⌝ }
+    requires { ⌜ b ≤ 4608 ⌝ }
+    requires { ⌜ x < 65536 ⌝ }
+    ensures { λ r. ⌜ Puts (shape (now (m .entry))) (shape (now (m .exit))) (place p b) x ⌝ }
+{
+    if b == 0 {
+        m[72 + p] = with_first(m[72 + p], x);
+    } else {
+        m[72 + b] = with_next(m[72 + b], x);
+    }
+}
+
+// The child of p behind which the cell c has its place, or 0.
+fn find(m: &[u64], p: usize, c: u64) -> usize
+    requires { ⌜ Ready (now m) p ⌝ }
+    ensures { λ r. ⌜ Found (shape (now (m .entry))) p r c ⌝ }
+{
+    let mut b: usize = 0;
+    let mut x: usize = first_of(m[72 + p]) as usize;
+    while x != 0 {
+        let w = m[72 + x];
+        if cell_of(w) >= c {
+            return b;
+        }
+        b = x;
+        x = next_of(w) as usize;
+    }
+    b
+}
+
+// ---- adding
+
+// How far the nodes of a form exist: the link of the last, and how many there are.
+pub struct Down {
+    pub link: usize,
+    pub depth: usize,
+}
+
+pub fn descend(m: &[u64], form: &[u16]) -> Down
+    requires { ⌜ Sound (now m) ⌝ }
+    ensures { λ r. ⌜ Descended (shape (now (m .entry))) (now (form .entry)) (r .link) (r .depth) ⌝ }
+{
+    let mut l: usize = 0;
+    let mut i: usize = 0;
+    while i < form.len() {
+        let c = wide(form[i]);
+        let b = find(m, l, c);
+        let x = get_link(m, l, b);
+        if x == 0 {
+            return Down { link: l, depth: i };
+        }
+        if cell_of(m[72 + x]) != c {
+            return Down { link: l, depth: i };
+        }
+        l = x;
+        i += 1;
+    }
+    Down { link: l, depth: i }
+}
+
+// The free node n comes in with the cell c at a place of p.
+fn link(m: &mut [u64], p: usize, b: usize, n: usize, c: u64)
+    requires { ⌜ Room (now m) p b n c ⌝ }
+    ensures { λ r. ⌜ Links (shape (now (m .entry))) (shape (now (m .exit))) (place p b) c n ⌝ }
+{
+    let x = get_link(m, p, b);
+    m[73 + n] = pack(c, p as u64, 0, x as u64);
+    put_link(m, p, b, n as u64 + 1);
+    bits::mark(&mut m[0..72], n);
+}
+
+// A chain of new nodes with the cells of a form, the first under l: the link of the last.
+fn grow(m: &mut [u64], l: usize, form: &[u16]) -> usize
+    requires { ⌜ Growing (now m) l (now form) 0 ⌝ }
+    ensures { λ r. ⌜ Grown (shape (now (m .entry))) l (reverse (now (form .entry))) (shape (now (m .exit))) r ⌝ }
+{
+    let mut at = l;
+    let mut i: usize = 0;
+    while i < form.len() {
+        let c = wide(form[i]);
+        let b = find(m, at, c);
+        let n = bits::lowest_free(&m[0..64]);
+        link(m, at, b, n, c);
+        at = n + 1;
+        i += 1;
+    }
+    at
+}
+
+// The nodes of a form that are missing are linked in: the link of its last node, or 0 where there would be more than
+// 4,096 nodes.
+pub fn plant(m: &mut [u64], form: &[u16]) -> usize
+    requires { ⌜ Sound (now m) ⌝ }
+    requires { ⌜ 0 < length (now form) ⌝ }
+    requires { ⌜ length (now form) ≤ 32 ⌝ }
+    ensures { λ r. ⌜ Planted (now (m .entry)) (now (m .exit)) (now (form .entry)) r ⌝ }
+{
+    let d = descend(m, form);
+    let at = d.link;
+    let i = d.depth;
+    let held = bits::count(&m[0..64]);
+    if held + (form.len() - i) > 4096 {
+        return 0;
+    }
+    grow(m, at, &form[i..])
+}
+
+// The rule r, with its number, hangs below the last node of its form, whose link is p.
+pub fn hang(m: &mut [u64], p: usize, r: usize, number: u64)
+    requires { ⌜ Hangable (now m) p r number ⌝ }
+    ensures { λ _. ⌜ Hung (shape (now (m .entry))) (shape (now (m .exit))) p r number ⌝ }
+{
+    let b = find(m, p, number);
+    link(m, p, b, 4096 + r, number);
+}
+
+// ---- removing
+
+// The node n, which has no child, goes.
+fn unlink(m: &mut [u64], n: usize)
+    requires { ⌜ Leaf (now m) n ⌝ }
+    ensures { λ r. ⌜ Unlinked (shape (now (m .entry))) (shape (now (m .exit))) n ⌝ }
+{
+    let w = m[73 + n];
+    let p = parent_of(w) as usize;
+    let b = find(m, p, cell_of(w));
+    put_link(m, p, b, next_of(w));
+    bits::clear(&mut m[0..72], n);
+}
+
+// From the node `last` up, each node that has no child goes.
+pub fn trim(m: &mut [u64], last: usize)
+    requires { ⌜ Sound (now m) ⌝ }
+    requires { ⌜ Used (shape (now m)) last ⌝ }
+    ensures { λ r. ⌜ Trimmed (shape (now (m .entry))) (suc last) (shape (now (m .exit))) ⌝ }
+{
+    let mut l = last + 1;
+    while l != 0 {
+        let w = m[72 + l];
+        if first_of(w) != 0 {
+            return;
+        }
+        unlink(m, l - 1);
+        l = parent_of(w) as usize;
+    }
+}
+
+// ---- the check
+
+// Is the link that of a used node?
+fn is_used(m: &[u64], l: usize) -> bool
+    requires { ⌜ length (now m) ≡ 4681 ⌝ }
+    ensures { λ r. ⌜ r ≡ uses (shape (now (m .entry))) l ⌝ }
+{
+    if l == 0 {
+        return false;
+    }
+    if l > 4608 {
+        return false;
+    }
+    bits::is_marked(&m[0..72], l - 1)
+}
+
+// Does going up from the node `last` read the form backwards and end at the root? Marks the nodes on the way.
+pub fn climb(m: &[u64], map: &mut [u64], last: usize, form: &[u16]) -> bool
+    requires { ⌜ length (now m) ≡ 4681 ⌝ }
+    requires { ⌜ length (now map) ≡ 72 ⌝ }
+    requires { ⌜ last < 65536 ⌝ }
+    ensures { λ r. ⌜ Climbed (shape (now (m .entry))) (now (map .entry)) (now (map .exit)) last (now (form .entry)) r ⌝ }
+{
+    let mut l = last + 1;
+    let mut i: usize = form.len();
+    while i != 0 {
+        if !is_used(m, l) {
+            return false;
+        }
+        let w = m[72 + l];
+        if cell_of(w) != wide(form[i - 1]) {
+            return false;
+        }
+        bits::mark(map, l - 1);
+        i = i - 1;
+        l = parent_of(w) as usize;
+    }
+    l == 0
+}
+
+// Is x no link, or one to a child of p with a cell of at least `low`? Marks the child.
+fn visit(m: &[u64], map: &mut [u64], x: usize, p: usize, low: u64) -> bool
+    requires { ⌜ length (now m) ≡ 4681 ⌝ }
+    requires { ⌜ length (now map) ≡ 72 ⌝ }
+    ensures { λ r. ⌜ Visited (shape (now (m .entry))) (now (map .entry)) (now (map .exit)) x p low r ⌝ }
+{
+    if x == 0 {
+        return true;
+    }
+    if !is_used(m, x) {
+        return false;
+    }
+    let w = m[72 + x];
+    if parent_of(w) as usize != p {
+        return false;
+    }
+    if cell_of(w) < low {
+        return false;
+    }
+    bits::mark(map, x - 1);
+    true
+}
+
+// The two places of the node n.
+fn visit_node(m: &[u64], map: &mut [u64], n: usize) -> bool
+    requires { ⌜ length (now m) ≡ 4681 ⌝ }
+    requires { ⌜ length (now map) ≡ 72 ⌝ }
+    requires { ⌜ n < 4608 ⌝ }
+    ensures { λ r. ⌜ Noded (shape (now (m .entry))) (now (map .entry)) (now (map .exit)) n r ⌝ }
+{
+    let w = m[73 + n];
+    if !visit(m, map, first_of(w) as usize, n + 1, 0) {
+        return false;
+    }
+    visit(
+        m,
+        map,
+        next_of(w) as usize,
+        parent_of(w) as usize,
+        cell_of(w) + 1,
+    )
+}
+
+// Do all links of the root and of the used nodes fit? Marks the nodes that they lead to. It walks over the set bits of the map.
+pub fn targets(m: &[u64], map: &mut [u64]) -> bool
+    requires { ⌜ length (now m) ≡ 4681 ⌝ }
+    requires { ⌜ length (now map) ≡ 72 ⌝ }
+    requires { ⌜ ((y : ℕ) → Marked (now map) y → ⊥) ⌝ }
+    ensures { λ r. ⌜ Targeted (shape (now (m .entry))) (now (map .exit)) r ⌝ }
+{
+    if !visit(m, map, first_of(m[72]) as usize, 0, 0) {
+        return false;
+    }
+    let mut n = bits::next_marked(&m[0..72], 0);
+    while n < 4608 {
+        if !visit_node(m, map, n) {
+            return false;
+        }
+        n = bits::next_marked(&m[0..72], n + 1);
+    }
+    true
+}
