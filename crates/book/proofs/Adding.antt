@@ -28,7 +28,7 @@ use Rattle.tree.specs.Plant.{planted-partly, planted-full, planted-fits, no-rul
 use Rattle.tree.specs.Leaves.{Leaf, bases, ends, Hanging}
 use Rattle.book.specs.Rules.{Held, nothing, rule, Rules, isHeld, pickHeld, withRule, terms, ruleCount, nodesOf, judged, pickAdded, after}
 use Rattle.book.specs.Rules as rules
-use Rattle.book.specs.Gathered.{Standing, terms-standing}
+use Rattle.book.specs.Gathered.{Standing, terms-standing, rule-inj, not-rule}
 use Rattle.book.specs.Memory.{View, view, taken, number, term, form, formOf, leaf, leaves, rulesOf, Right, Passing, rulesIn}
 use Rattle.book.specs.Forms.{form-free, count-forms}
 use Rattle.book.specs.Holding.{rules-tally, count-tally, hanging, base-forms, at-holds, term-at}
@@ -141,10 +141,7 @@ module _ (ws : List ℕ) (k : ℕ) (t : List ℕ) (p : Passing ws) where
         other-numbers : (x : Leaf) → List·Memᴰ x (leaves (view ws)) → x .form ≡ formOf t → ¬ (x .number ≡ k)
         other-numbers x i e n =
             let q = leaf-at x i in
-            clash (sym new ∙ ap (rulesIn ws) (sym (ap (λ (y : Leaf). y .number) (q .2) ∙ n)) ∙ at-holds (view ws) low (p .right) (q .0) (q .1))
-          where
-            clash : {s : List ℕ} → ¬ (nothing ≡ rule s)
-            clash e = let z : _≡_ {A = ℕ} 0 1 = cc in omega arith
+            not-rule (sym new ∙ ap (rulesIn ws) (sym (ap (λ (y : Leaf). y .number) (q .2) ∙ n)) ∙ at-holds (view ws) low (p .right) (q .0) (q .1))
 
         -- the forms with the new one
         forms : List (List ℕ)
@@ -156,9 +153,6 @@ module _ (ws : List ℕ) (k : ℕ) (t : List ℕ) (p : Passing ws) where
 
           with-other : (j : ℕ) → ¬ (j ≡ k) → withRule (rulesIn ws) k t j ≡ rulesIn ws j
           with-other j d = ap (λ (b : Bool). pickHeld b (rule t) (rulesIn ws j)) (ne-eqb j k d)
-
-          rule-inj : {a b : List ℕ} → rule a ≡ rule b → a ≡ b
-          rule-inj e = cc
 
           of : (f : List ℕ) → List·Memᴰ f forms → (f ≡ formOf t) ⊎ List·Memᴰ f (bases (leaves (view ws)))
           unfolding forms
@@ -180,10 +174,7 @@ module _ (ws : List ℕ) (k : ℕ) (t : List ℕ) (p : Passing ws) where
               let q = Memᴰ·of-map formOf (terms (rulesIn ws)) (base-forms (view ws) low (p .right) f .0 i) in
               let s = terms-standing (rulesIn ws) (q .0) .0 (q .1) in
               Memᴰ·cast (sym (q .2)) (Memᴰ·map formOf (terms-standing (withRule (rulesIn ws) k t) (q .0) .1
-              (record { number = s .number; low = s .low; is = with-other (s .number) (λ d. clash (sym new ∙ ap (rulesIn ws) (sym d) ∙ s .is)) ∙ s .is })))
-            where
-              clash : {s : List ℕ} → ¬ (nothing ≡ rule s)
-              clash e = let z : _≡_ {A = ℕ} 0 1 = cc in omega arith
+              (record { number = s .number; low = s .low; is = with-other (s .number) (λ d. not-rule (sym new ∙ ap (rulesIn ws) (sym d) ∙ s .is)) ∙ s .is })))
 
           joined : List·Memᴰ (formOf t) forms
           unfolding forms

@@ -14,7 +14,7 @@ use Rattle.bits.specs.Laws.{length-bits}
 use Rattle.term.specs.Counting.{true≢false}
 use Rattle.tree.specs.Shape.{Shape, Place, Used, Valid, Goes, Up, On, End, Covered, Passes}
 use Rattle.tree.specs.Tally.{tally, marked}
-use Rattle.tree.specs.Tallies.{map-tally}
+use Rattle.tree.specs.Tallies.{map-tally, no-mark}
 use Rattle.tree.specs.Promises.{Marked, Targeted}
 use Rattle.tree.specs.Check.{Climbs, decides, targets-refuse}
 use Rattle.tree.specs.Limits.{used-low, all-held}
@@ -54,11 +54,7 @@ next-taken ws from r size f = record {
 
 -- no mark in a map of zeros
 pub clear-map : (n : ℕ) → ¬ (Marked (replicate 72 0) n)
-clear-map n m = true≢false m (ap (λ (x : ℕ). eqb x 1) (zero n))
-  where
-    zero : (n : ℕ) → getD (bits (replicate 72 0)) n 0 ≡ 0
-    zero n = Rattle.bits.specs.Laws.get-bit (replicate 72 0) n ∙ ap (λ (w : ℕ). Prim.Native.Nat._%_ (Prim.Native.Nat._/_ w (Prim.Native.Nat._^_ 2 (63 - Prim.Native.Nat._%_ n 64))) 2) (Rattle.book.proofs.Filling.zeros-are 72 (Prim.Native.Nat._/_ n 64))
-        ∙ ap (λ (x : ℕ). Prim.Native.Nat._%_ x 2) (native.Mathlib.Nat.zero-div (Prim.Native.Nat._^_ 2 (63 - Prim.Native.Nat._%_ n 64)))
+clear-map n m = true≢false m (no-mark 72 n)
 
 pub checked-none : (ws : List ℕ) → Checked ws (replicate 72 0) 0
 checked-none ws = record {

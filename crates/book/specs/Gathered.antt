@@ -58,6 +58,13 @@ unfolding each
 each-none f zero k h = refl
 each-none f (suc n) k h = ap₂ _++_ (h k (omega arith) (omega arith)) (each-none f n (suc k) (λ j a b. h j (omega arith) (omega arith)))
 
+-- nothing is no rule, and a rule has one term
+pub rule-inj : {s t : List ℕ} → rule s ≡ rule t → s ≡ t
+rule-inj e = cc
+
+pub not-rule : {t : List ℕ} → ¬ (nothing ≡ rule t)
+not-rule e = let z : _≡_ {A = ℕ} 0 1 = cc in omega arith
+
 -- the terms of some rules: exactly those that stand under a number
 term-held : {t : List ℕ} (h : Held) → List·Memᴰ t (termsOf h) → h ≡ rule t
 term-held nothing i = absurd (List·Memᴰ·not-nil i)

@@ -20,15 +20,9 @@ use Rattle.tree.specs.Tallies.{listed, length-listed, of-listed, to-listed, lis
 use Rattle.tree.specs.Leaves.{Leaf, bases, ends, Hanging, numbered}
 use Rattle.tree.specs.NodeCount.{node-count, nodes-are}
 use Rattle.book.specs.Rules.{Held, nothing, rule, Rules, isHeld, termsOf, pickHeld, each, terms, ruleCount, nodesOf}
-use Rattle.book.specs.Gathered.{Standing, terms-standing}
+use Rattle.book.specs.Gathered.{Standing, terms-standing, rule-inj, not-rule}
 use Rattle.book.specs.Memory.{View, taken, number, term, form, formOf, leaf, leaves, heldAt, rulesOf, Recorded, Right}
 use Rattle.book.specs.Forms.{form-free, count-forms}
-
-rule-inj : {s t : List ℕ} → rule s ≡ rule t → s ≡ t
-rule-inj e = cc
-
-not-rule : {t : List ℕ} → ¬ (nothing ≡ rule t)
-not-rule e = let z : _≡_ {A = ℕ} 0 1 = cc in omega arith
 
 both-true : (a b : Bool) → a ≡ true → b ≡ true → both a b ≡ true
 both-true a b e f = ap (λ (x : Bool). both x b) e ∙ f

@@ -1,14 +1,18 @@
 -- The book's promises in numbers, with what is refused before the book is asked.
 use mathlib.Core.Path.{_≡_}
-use mathlib.Core.List.{List}
+use mathlib.Core.Logic.{_⊎_}
+use mathlib.Core.List.{List, _++_}
 use mathlib.Core.Bool.{Bool, true, false}
 use Prim.Native.Nat.{ℕ, _≤_, _<_}
-use lib.ListN.{length, getD}
+use lib.Dec.{eqb}
+use lib.ListN.{length, getD, drop}
+use Rattle.term.specs.Questions.{Mode, variants, instances, generalisations, unifiables}
 use Rattle.book.specs.declared.Added.{Added}
 use Rattle.book.specs.declared.Removed.{Removed}
 use Rattle.book.specs.Rules.{addRefusal}
-use Rattle.book.specs.Memory.{Passing}
+use Rattle.book.specs.Memory.{Passing, rulesIn}
 use Rattle.book.specs.Promises.{IsTerm, Adds, Removes, removeRefusal, Shows, Counts}
+use Rattle.questions.specs.Asking.{answers}
 
 -- A test decides whether something holds.
 pub record Decides (A : Type 0) (r : Bool) : Type 0 where
@@ -51,3 +55,20 @@ pub data ShowsNumbers (ws : List ℕ) (k : ℕ) (out out′ : List ℕ) (r size 
 pub data CountsNumbers (ws : List ℕ) (r rules nodes : ℕ) : Type 0 where
   failing : ¬ (Passing ws) → r ≡ 1 → rules ≡ 0 → nodes ≡ 0 → CountsNumbers ws r rules nodes
   counted : Passing ws → r ≡ 0 → Counts ws rules nodes → CountsNumbers ws r rules nodes
+
+-- The paper's kinds of questions.
+abbrev pub pickMode : Bool → Mode → Mode → Mode
+pickMode true a b = a
+pickMode false a b = b
+
+abbrev pub modeOf : ℕ → Mode
+modeOf kind = pickMode (eqb kind 2) variants (pickMode (eqb kind 3) instances (pickMode (eqb kind 4) generalisations unifiables))
+
+-- A question: the list of the rules that answer, from the front of the cells.
+pub data AsksNumbers (ws : List ℕ) (kind : ℕ) (q out out′ : List ℕ) (r count : ℕ) : Type 0 where
+  failing : ¬ (Passing ws) → r ≡ 1 → count ≡ 0 → out′ ≡ out → AsksNumbers ws kind q out out′ r count
+  no-kind : Passing ws → (kind < 2) ⊎ (5 < kind) → r ≡ 2 → count ≡ 0 → out′ ≡ out → AsksNumbers ws kind q out out′ r count
+  no-term : Passing ws → ¬ (IsTerm q) → r ≡ 2 → count ≡ 0 → out′ ≡ out → AsksNumbers ws kind q out out′ r count
+  short : Passing ws → IsTerm q → length out < length (answers (modeOf kind) q (rulesIn ws)) → r ≡ 2 → count ≡ 0 → out′ ≡ out → AsksNumbers ws kind q out out′ r count
+  listed : Passing ws → IsTerm q → r ≡ 0 → count ≡ length (answers (modeOf kind) q (rulesIn ws))
+      → out′ ≡ answers (modeOf kind) q (rulesIn ws) ++ drop (length (answers (modeOf kind) q (rulesIn ws))) out → AsksNumbers ws kind q out out′ r count

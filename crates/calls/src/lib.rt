@@ -5,7 +5,8 @@ ghost use Prim.Native.Nat.{_≤_};
 ghost use lib.ListN.{length};
 ghost use Rattle.book.specs.Promises.{IsTerm, Empties, removeRefusal};
 ghost use Rattle.book.specs.Rules.{addRefusal};
-ghost use Rattle.calls.specs.Calls.{Decides, ChecksNumber, AddsNumber, RemovesNumber, ShowsNumbers, CountsNumbers, Copied};
+ghost use Rattle.term.specs.Machine.{fillsQuestion, fillsRule};
+ghost use Rattle.calls.specs.Calls.{modeOf, AsksNumbers, Decides, ChecksNumber, AddsNumber, RemovesNumber, ShowsNumbers, CountsNumbers, Copied};
 use book::Added;
 use book::Book;
 use book::Removed;
@@ -17,6 +18,13 @@ use term::reading::Reading;
 pub struct RuleShown {
     pub refusal: u64,
     pub size: u64,
+}
+
+// What `cf_test_ask` answers: 0 and how many numbers were written, or the refusal and 0.
+#[repr(C)]
+pub struct RulesListed {
+    pub refusal: u64,
+    pub count: u64,
 }
 
 // What `cf_test_room` answers: 0, the rules held and the node count, or 1, 0 and 0.
@@ -78,6 +86,28 @@ fn copy(cells: &[u16; 32], out: &mut [u16])
         out[i] = cells[i];
         i += 1;
     }
+}
+
+// May the question's blanks be filled? The paper's kinds are 2 variants, 3 instances, 4 generalisations, 5 unifiables.
+fn fills_question(kind: u64) -> bool
+    requires { ⌜ (2 ≤ kind) × (kind ≤ 5) ⌝ }
+    ensures { λ r. ⌜ r ≡ fillsQuestion (modeOf kind) ⌝ }
+{
+    if kind == 3 {
+        return true;
+    }
+    kind == 5
+}
+
+// May the rule's?
+fn fills_rule(kind: u64) -> bool
+    requires { ⌜ (2 ≤ kind) × (kind ≤ 5) ⌝ }
+    ensures { λ r. ⌜ r ≡ fillsRule (modeOf kind) ⌝ }
+{
+    if kind == 4 {
+        return true;
+    }
+    kind == 5
 }
 
 // The words of a book.
@@ -194,5 +224,55 @@ pub extern "C" fn cf_test_room(words: &[u64]) -> RoomLeft
         refusal: 0,
         rules: wide(counted.rules),
         nodes: wide(counted.nodes),
+    }
+}
+
+// Asks a question: 0 with the count of the rules that answer and their numbers from the front of `out`; or 1, or 2 (kind not 2
+// to 5, not one whole term, `out` too short).
+#[no_mangle]
+pub extern "C" fn cf_test_ask(
+    words: &[u64],
+    kind: u64,
+    question: &[u16],
+    out: &mut [u16],
+) -> RulesListed
+    ensures { λ r. ⌜ AsksNumbers (now (words .entry)) kind (now (question .entry)) (now (out .entry)) (now (out .exit)) (r .refusal) (r .count) ⌝ }
+{
+    if !book::check::passes(words) {
+        return RulesListed {
+            refusal: 1,
+            count: 0,
+        };
+    }
+    if kind < 2 {
+        return RulesListed {
+            refusal: 2,
+            count: 0,
+        };
+    }
+    if 5 < kind {
+        return RulesListed {
+            refusal: 2,
+            count: 0,
+        };
+    }
+    if !is_term(question) {
+        return RulesListed {
+            refusal: 2,
+            count: 0,
+        };
+    }
+    let marks = questions::ask(words, fills_question(kind), fills_rule(kind), question);
+    let count = bits::count(&marks);
+    if out.len() < count {
+        return RulesListed {
+            refusal: 2,
+            count: 0,
+        };
+    }
+    questions::list(&marks, out);
+    RulesListed {
+        refusal: 0,
+        count: wide(count),
     }
 }

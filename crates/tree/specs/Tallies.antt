@@ -3,14 +3,15 @@ use mathlib.Core.Path.{_≡_, refl, sym, ap, _∙_}
 use mathlib.Core.Logic.{_⊎_, inl, inr}
 use mathlib.Core.List.{List, [], _∷_, List·Memᴰ, List·Memᴰ·not-nil, Memᴰ·cast}
 use mathlib.Core.Bool.{Bool, true, false}
-use Prim.Native.Nat.{ℕ, zero, suc, _+_, _*_, _≤_, _<_}
+use Prim.Native.Nat.{ℕ, zero, suc, _+_, _-_, _*_, _/_, _%_, _^_, _≤_, _<_}
 use native.Mathlib.Omega.{arith}
 use native.Mathlib.Decide.{ℕ-discrete}
 use lib.Dec.{eqb}
-use lib.ListN.{length, getD, set}
+use native.Mathlib.Nat.{zero-div}
+use lib.ListN.{length, getD, set, replicate}
 use lib.Seq.{getD-set-same, getD-set-other}
 use Rattle.bits.specs.Packed.{bits, sum}
-use Rattle.bits.specs.Laws.{length-bits, bit-low}
+use Rattle.bits.specs.Laws.{length-bits, bit-low, get-bit}
 use Rattle.term.specs.Beginnings.{putIf, Distinct}
 use Rattle.term.specs.Distinct.{put-member, put-keeps, put-adds, put-distinct}
 use Rattle.term.specs.Counting.{true≢false}
@@ -157,3 +158,12 @@ sum-tally (x ∷ l) h =
 -- the count of the set bits of a map
 pub map-tally : (map : List ℕ) → sum (bits map) ≡ tally (marked map) (64 * length map)
 map-tally map = sum-tally (bits map) (bit-low map) ∙ ap (tally (marked map)) (length-bits map)
+
+-- a map of zeros has no mark
+pub no-mark : (n k : ℕ) → marked (replicate n 0) k ≡ false
+no-mark n k = ap (λ (x : ℕ). eqb x 1) (get-bit (replicate n 0) k ∙ ap (λ (w : ℕ). w / 2 ^ (63 - k % 64) % 2) (zero-word n (k / 64)) ∙ ap (λ (x : ℕ). x % 2) (zero-div (2 ^ (63 - k % 64))))
+  where
+    zero-word : (n i : ℕ) → _≡_ {A = ℕ} (getD (replicate n 0) i 0) 0
+    zero-word zero i = refl
+    zero-word (suc n) zero = refl
+    zero-word (suc n) (suc i) = zero-word n i

@@ -2,7 +2,7 @@
 //! each call checks it first.
 
 mod foreign {
-    use super::{RoomLeft, RuleShown};
+    use super::{RoomLeft, RuleShown, RulesListed};
 
     extern "C" {
         /// The words of a book.
@@ -37,6 +37,18 @@ mod foreign {
 
         /// Counts rules and nodes; `words` points to `count` words.
         pub fn cf_test_room(words: *const u64, count: usize) -> RoomLeft;
+
+        /// Asks a question; `words` points to `count` words, `question` to `cells` cells, `out` to `room` cells that may be
+        /// written.
+        pub fn cf_test_ask(
+            words: *const u64,
+            count: usize,
+            kind: u64,
+            question: *const u16,
+            cells: usize,
+            out: *mut u16,
+            room: usize,
+        ) -> RulesListed;
     }
 }
 
@@ -48,6 +60,16 @@ pub struct RuleShown {
     pub refusal: u64,
     /// The length of the term; 0 when refused.
     pub size: u64,
+}
+
+/// What asking a question answers.
+#[repr(C)]
+#[derive(Clone, Copy, PartialEq, Eq, Debug)]
+pub struct RulesListed {
+    /// 0, 1 (memory) or 2 (kind not 2 to 5, cells that aren't one whole term, too little room).
+    pub refusal: u64,
+    /// How many numbers were written; 0 when refused.
+    pub count: u64,
 }
 
 /// What asking for the room answers.
@@ -104,4 +126,23 @@ pub fn show(book: &[u64], number: u64, out: &mut [u16]) -> RuleShown {
 pub fn room(book: &[u64]) -> RoomLeft {
     // SAFETY: pointer and count are those of a live slice, which the call only reads and doesn't keep.
     unsafe { foreign::cf_test_room(book.as_ptr(), book.len()) }
+}
+
+/// Asks a question of the paper's kind 2, 3, 4 or 5; the numbers of the rules that answer stand at the front of `out`.
+pub fn ask(book: &[u64], kind: u64, question: &[u16], out: &mut [u16]) -> RulesListed {
+    let (words, count) = (book.as_ptr(), book.len());
+    let (asked, cells) = (question.as_ptr(), question.len());
+    // SAFETY: pointers and counts are those of live slices of which none overlaps `out`, since it is `&mut`; the call keeps
+    // none.
+    unsafe {
+        foreign::cf_test_ask(
+            words,
+            count,
+            kind,
+            asked,
+            cells,
+            out.as_mut_ptr(),
+            out.len(),
+        )
+    }
 }

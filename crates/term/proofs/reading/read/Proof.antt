@@ -1,3 +1,4 @@
+-- A turn takes one cell, as the definition does; what is left to read from there on stays what was asked for.
 use borrow.Author.Needs.{needs}
 use mathlib.Core.Path.{_≡_, refl, sym, _∙_}
 use Prim.Native.Nat.{_+_, _*_, _-_, _≤_}

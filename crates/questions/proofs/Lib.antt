@@ -1,0 +1,7 @@
+-- Why the search does what it promises.
+pub mod Deciding
+pub mod Lending
+pub mod Searching
+pub mod Trying
+pub mod Turning
+pub mod Writing

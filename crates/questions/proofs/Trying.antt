@@ -1,0 +1,44 @@
+-- What a turn promises, from what was decided at the node and what became of the points.
+use mathlib.Core.Path.{_≡_, refl, sym, ap, _∙_, subst}
+use mathlib.Core.Logic.{_⊎_, inl, inr}
+use mathlib.Core.List.{List}
+use mathlib.Core.Bool.{Bool, true, false}
+use Prim.Native.Nat.{ℕ}
+use native.Mathlib.Decide.{ℕ-discrete}
+use lib.ListN.{length, set}
+use Rattle.bits.specs.Packed.{bits}
+use Rattle.term.specs.Counting.{true≢false}
+use Rattle.tree.specs.Words.{cellOf}
+use Rattle.questions.specs.declared.Point.{Point}
+use Rattle.questions.specs.declared.Points.{Points}
+use Rattle.questions.specs.Walk.{good}
+use Rattle.questions.specs.Promises.{Turned, Placed, Tried, Answered, Passed, Deeper, wordAt}
+
+-- a rule that is listed has nothing below
+pub none-below : (fq fr : Bool) (q : List ℕ) (w skip place : ℕ) (lists : Bool) (down skip′ place′ : ℕ) → Turned fq fr q w skip place lists down skip′ place′ → lists ≡ true → down ≡ 0
+none-below fq fr q w skip place lists down skip′ place′ t f = go (ℕ-discrete down 0)
+  where
+    go : Dec (down ≡ 0) → down ≡ 0
+    go (yes z) = z
+    go (no d) = absurd (true≢false f (t .lists-is ∙ ap (good fq fr) (t .goes d .walk)))
+
+module _ (fq fr : Bool) (ws q marks : List ℕ) (p : Point) (depth : ℕ) (some : ¬ (p .link ≡ 0)) (lists : Bool) (down skip′ place′ : ℕ) (t : Turned fq fr q (wordAt ws p) (p .skip) (p .place) lists down skip′ place′) (r : Points) (at : Placed (wordAt ws p) p down skip′ place′ depth r) where
+  tried : (says : Bool) → lists ≡ says → Tried fq fr ws q p r says
+  tried says f = record {
+    some = some;
+    beside = at .beside;
+    turned = subst (λ (x : Point). Turned fq fr q (wordAt ws p) (p .skip) (p .place) says (x .link) (x .skip) (x .place)) (sym (at .below)) (subst (λ (x : Bool). Turned fq fr q (wordAt ws p) (p .skip) (p .place) x down skip′ place′) f t);
+  }
+
+  pub lists-it : lists ≡ true → (marks′ : List ℕ) → length marks′ ≡ length marks → bits marks′ ≡ set (bits marks) (cellOf (wordAt ws p)) 1 → Answered fq fr ws q marks marks′ p depth r
+  lists-it f marks′ long mark = record { tried = tried true f; long = long; mark = mark; level = at .level (none-below fq fr q (wordAt ws p) (p .skip) (p .place) lists down skip′ place′ t f) }
+
+  pub goes-by : lists ≡ false → Passed fq fr ws q marks marks p depth r ⊎ Deeper fq fr ws q marks marks p depth r
+  goes-by f = go (ℕ-discrete down 0)
+    where
+      down-is : r .below .link ≡ down
+      down-is = ap (λ (x : Point). x .link) (at .below)
+
+      go : Dec (down ≡ 0) → Passed fq fr ws q marks marks p depth r ⊎ Deeper fq fr ws q marks marks p depth r
+      go (yes z) = inl (record { tried = tried false f; same = refl; ends = down-is ∙ z; level = at .level z })
+      go (no d) = inr (record { tried = tried false f; same = refl; goes = λ z. d (sym down-is ∙ z); more = at .more d })

@@ -1,0 +1,198 @@
+-- A turn of the search in the words of its loop: a depth for the level above it, a link for the node behind it.
+use mathlib.Core.Path.{_≡_, refl, sym, ap, _∙_, subst}
+use mathlib.Core.Logic.{inl, inr}
+use mathlib.Core.List.{List}
+use mathlib.Core.Bool.{Bool, true, false}
+use Prim.Native.Nat.{ℕ, suc, _+_, _-_, _*_, _≤_, _<_}
+use native.Mathlib.Omega.{arith}
+use native.Mathlib.Decide.{ℕ-discrete}
+use lib.ListN.{length, getD, set}
+use lib.Seq.{getD-take}
+use Rattle.bits.specs.Packed.{bits}
+use Rattle.term.specs.Steps.{Stands}
+use Rattle.term.specs.Counting.{true≢false}
+use Rattle.tree.specs.Words.{cellOf, firstOf, nextOf}
+use Rattle.book.specs.Memory.{Passing}
+use Rattle.book.specs.Promises.{IsTerm}
+use Rattle.questions.specs.declared.Point.{Point}
+use Rattle.questions.specs.Walk.{Walk, reading, listed, good}
+use Rattle.questions.specs.declared.Points.{Points}
+use Rattle.questions.specs.Promises.{Turned, Searched, Rooted, wordAt, Stood, Ended, Answered, Passed, Deeper, Became}
+use Rattle.questions.proofs.Trying.{none-below}
+use Rattle.questions.proofs.Searching.{Book, Searching, left, linkAt, starts, aside, aside-left, drops, drops-less, stands, node-low, passes-by, marks-it, number-low, beside-less, goes-down, down-less, searched}
+
+-- the point at a level
+abbrev pub pointAt : List Point → ℕ → Point
+pointAt l k = getD l k (record { link = 0; skip = 0; place = 0 })
+
+-- the loop's invariant
+abbrev pub Loop : Bool → Bool → (ws q marks₀ marks : List ℕ) → List Point → ℕ → Type 0
+Loop fq fr ws q marks₀ marks l depth = (b : Book ws q) × Searching fq fr ws q b marks₀ marks l depth
+
+-- the loop begins at the root
+pub begins : (fq fr : Bool) (ws q marks : List ℕ) (l : List Point) → Passing ws → IsTerm q → length marks ≡ 64 → Rooted ws l → Loop fq fr ws q marks marks l 1
+unfolding linkAt
+begins fq fr ws q marks l pass whole lm r =
+    let b : Book ws q = record { passing = pass; whole = whole; words = r .root .words } in
+    (b, starts fq fr ws q b marks l lm (r .long) (r .root .link ∙ ap firstOf (sym (getD-take 4681 ws 72 0 (omega arith)))) (r .root .skip) (r .root .place))
+
+module _ (fq fr : Bool) (ws q marks₀ marks : List ℕ) (l : List Point) (depth : ℕ) (i : Loop fq fr ws q marks₀ marks l depth) where
+  pub ends : depth ≤ 0 → Searched fq fr ws q marks₀ marks
+  ends h = searched fq fr ws q (i .0) marks₀ marks l depth (i .1) h
+
+  module _ (h : 0 < depth) where
+    abbrev k : ℕ
+    k = depth - 1
+
+    up : suc k ≡ depth
+    up = omega arith
+
+    s : Searching fq fr ws q (i .0) marks₀ marks l (suc k)
+    s = subst (Searching fq fr ws q (i .0) marks₀ marks l) (sym up) (i .1)
+
+    link-is : linkAt l k ≡ pointAt l k .link
+    unfolding linkAt
+    link-is = refl
+
+    less : (l′ : List Point) (d : ℕ) → left fq fr ws l′ d < left fq fr ws l (suc k) → left fq fr ws l′ d < left fq fr ws l depth
+    less l′ d x = subst (λ (y : ℕ). left fq fr ws l′ d < left fq fr ws l y) up x
+
+    drop : pointAt l k .link ≡ 0 → Loop fq fr ws q marks₀ marks l (depth - 1)
+    drop e = (i .0, drops fq fr ws q (i .0) marks₀ marks l k s (link-is ∙ e))
+
+    drop-less : pointAt l k .link ≡ 0 → left fq fr ws l (depth - 1) < left fq fr ws l depth
+    drop-less e = less l k (drops-less fq fr ws q (i .0) marks₀ marks l k s (link-is ∙ e))
+
+    stand : Stands q (pointAt l k .skip) (pointAt l k .place)
+    stand = stands fq fr ws q (i .0) marks₀ marks l k s
+
+    module _ (nz : ¬ (pointAt l k .link ≡ 0)) where
+      n : ℕ
+      n = pointAt l k .link - 1
+
+      node : pointAt l k .link ≡ suc n
+      unfolding n
+      node = omega arith
+
+      e : linkAt l k ≡ suc n
+      e = link-is ∙ node
+
+      within : pointAt l k .link ≤ 4608
+      within = let b = node-low fq fr ws q (i .0) marks₀ marks l k s n e in omega (arith, node)
+
+      module _ (w : ℕ) (ew : w ≡ getD ws (72 + pointAt l k .link) 0) (next : ℕ) (en : next ≡ nextOf w) (lists : Bool) (down skip′ place′ : ℕ) (t : Turned fq fr q w (pointAt l k .skip) (pointAt l k .place) lists down skip′ place′) where
+        abbrev beside : Point
+        beside = record { link = next; skip = pointAt l k .skip; place = pointAt l k .place }
+
+        w-is : w ≡ getD ws (72 + suc n) 0
+        w-is = ew ∙ ap (λ (x : ℕ). getD ws (72 + x) 0) node
+
+        past : lists ≡ false → down ≡ 0 → Loop fq fr ws q marks₀ marks (set l k beside) depth
+        past f z = (i .0, subst (Searching fq fr ws q (i .0) marks₀ marks (set l k beside)) up (passes-by fq fr ws q (i .0) marks₀ marks l k s n e w w-is beside en refl refl lists down skip′ place′ t f z))
+
+        past-less : left fq fr ws (set l k beside) depth < left fq fr ws l depth
+        past-less = less (set l k beside) depth (subst (λ (y : ℕ). left fq fr ws (set l k beside) y < left fq fr ws l (suc k)) up (beside-less fq fr ws q (i .0) marks₀ marks l k s n e w w-is beside en refl refl lists down skip′ place′ t))
+
+        none : lists ≡ true → down ≡ 0
+        none f = none-below fq fr q w (pointAt l k .skip) (pointAt l k .place) lists down skip′ place′ t f
+
+        number-fits : lists ≡ true → cellOf w < 64 * length marks
+        number-fits f =
+            let x = number-low fq fr ws q (i .0) marks₀ marks l k s n e w w-is beside en refl refl lists down skip′ place′ t f (none f) in omega (arith, i .1 .map)
+
+        mark : lists ≡ true → (marks′ : List ℕ) → length marks′ ≡ length marks → bits marks′ ≡ set (bits marks) (cellOf w) 1 → Loop fq fr ws q marks₀ marks′ (set l k beside) depth
+        mark f marks′ lm em = (i .0, subst (Searching fq fr ws q (i .0) marks₀ marks′ (set l k beside)) up (marks-it fq fr ws q (i .0) marks₀ marks l k s n e w w-is beside en refl refl lists down skip′ place′ t f (none f) marks′ lm em))
+
+        module _ (nd : ¬ (down ≡ 0)) (f : lists ≡ false) where
+          abbrev below : Point
+          below = record { link = down; skip = skip′; place = place′ }
+
+          one : k + 1 ≡ suc k
+          one = omega arith
+
+          two : k + 2 ≡ suc (suc k)
+          two = omega arith
+
+          deeper : Loop fq fr ws q marks₀ marks (set (set l k beside) (k + 1) below) (k + 2)
+          deeper = (
+            i .0,
+            subst (λ (x : ℕ). Searching fq fr ws q (i .0) marks₀ marks (set (set l k beside) x below) (k + 2)) (sym one) (subst (Searching fq fr ws q (i .0) marks₀ marks (set (set l k beside) (suc k) below)) (sym two)
+                (goes-down fq fr ws q (i .0) marks₀ marks l k s n e w w-is beside en refl refl lists down skip′ place′ t nd f below refl refl refl)),
+          )
+
+          deeper-less : left fq fr ws (set (set l k beside) (k + 1) below) (k + 2) < left fq fr ws l depth
+          deeper-less = less (set (set l k beside) (k + 1) below) (k + 2) (subst (λ (x : ℕ). left fq fr ws (set (set l k beside) x below) (k + 2) < left fq fr ws l (suc k)) (sym one)
+              (subst (λ (y : ℕ). left fq fr ws (set (set l k beside) (suc k) below) y < left fq fr ws l (suc k)) (sym two) (down-less fq fr ws q (i .0) marks₀ marks l k s n e w w-is beside en refl refl lists down skip′ place′ t nd f below refl refl refl)))
+
+-- what is listed is at its end
+ended : (fq fr : Bool) (w : Walk) → good fq fr w ≡ true → w ≡ listed
+ended fq fr (reading x) f = absurd (true≢false f refl)
+ended fq fr listed f = refl
+
+-- The loop after a turn: its invariant holds again, and there is less left.
+pub record Again (fq fr : Bool) (ws q marks₀ : List ℕ) (l : List Point) (depth : ℕ) (marks′ : List ℕ) (l′ : List Point) (depth′ : ℕ) : Type 0 where
+  pub again : Loop fq fr ws q marks₀ marks′ l′ depth′
+  pub fewer : left fq fr ws l′ depth′ < left fq fr ws l depth
+
+module _ (fq fr : Bool) (ws q marks₀ marks : List ℕ) (l : List Point) (depth : ℕ) (i : Loop fq fr ws q marks₀ marks l depth) (h : 0 < depth) where
+  pub stood : Stood fq fr ws q marks (pointAt l (depth - 1)) depth
+  stood = record {
+    size = i .0 .passing .size;
+    stands = stand fq fr ws q marks₀ marks l depth i h;
+    within = low (ℕ-discrete (pointAt l (depth - 1) .link) 0);
+    some = h;
+    deep = i .1 .deep;
+    number = λ nz g. number-fits fq fr ws q marks₀ marks l depth i h nz _ refl _ refl true 0 0 0 (record { lists-is = sym g; goes = λ d. absurd (d refl); stops = λ _. inr (inl (ended fq fr _ g)) }) refl;
+  }
+    where
+      low : Dec (pointAt l (depth - 1) .link ≡ 0) → pointAt l (depth - 1) .link ≤ 4608
+      low (yes z) = omega (arith, z)
+      low (no nz) = within fq fr ws q marks₀ marks l depth i h nz
+
+  -- the list after a turn
+  abbrev listed-after : Points → List Point
+  listed-after r = set (set l (depth - 1) (r .beside)) depth (r .below)
+
+  abbrev After : List ℕ → List Point → ℕ → Type 0
+  After = Again fq fr ws q marks₀ l depth
+
+  besides : {marks′ : List ℕ} {l′ : List Point} {d j : ℕ} (p : Point) → d ≤ j → After marks′ l′ d → After marks′ (set l′ j p) d
+  besides {marks′} {l′} {d} {j} p past a = record {
+    again = (a .again .0, aside fq fr ws q (a .again .0) l′ d j p past (a .again .1));
+    fewer = subst (λ (x : ℕ). x < left fq fr ws l depth) (sym (aside-left fq fr ws q (a .again .0) l′ d j p past)) (a .fewer);
+  }
+
+  module _ (marks′ : List ℕ) (r : Points) where
+    of-ended : Ended marks marks′ (pointAt l (depth - 1)) depth r → After marks′ (listed-after r) (r .depth)
+    of-ended e = subst (After marks′ (listed-after r)) (sym (e .less)) (subst (λ (x : List ℕ). After x (listed-after r) (depth - 1)) (sym (e .same))
+        (besides (r .below) (omega arith) (besides (r .beside) (omega arith) (record { again = drop fq fr ws q marks₀ marks l depth i h (e .none); fewer = drop-less fq fr ws q marks₀ marks l depth i h (e .none) }))))
+
+    of-listed : Answered fq fr ws q marks marks′ (pointAt l (depth - 1)) depth r → After marks′ (listed-after r) (r .depth)
+    of-listed e = let t = e .tried in
+        subst (After marks′ (listed-after r)) (sym (e .level)) (besides (r .below) (omega arith) (subst (λ (p : Point). After marks′ (set l (depth - 1) p) depth) (sym (t .beside)) (record {
+          again = mark fq fr ws q marks₀ marks l depth i h (t .some) _ refl _ refl true _ _ _ (t .turned) refl marks′ (e .long) (e .mark);
+          fewer = past-less fq fr ws q marks₀ marks l depth i h (t .some) _ refl _ refl true _ _ _ (t .turned);
+        })))
+
+    of-passed : Passed fq fr ws q marks marks′ (pointAt l (depth - 1)) depth r → After marks′ (listed-after r) (r .depth)
+    of-passed e = let t = e .tried in
+        subst (After marks′ (listed-after r)) (sym (e .level)) (subst (λ (x : List ℕ). After x (listed-after r) depth) (sym (e .same)) (besides (r .below) (omega arith) (subst (λ (p : Point). After marks (set l (depth - 1) p) depth) (sym (t .beside)) (record {
+          again = past fq fr ws q marks₀ marks l depth i h (t .some) _ refl _ refl false _ _ _ (t .turned) refl (e .ends);
+          fewer = past-less fq fr ws q marks₀ marks l depth i h (t .some) _ refl _ refl false _ _ _ (t .turned);
+        }))))
+
+    of-deeper : Deeper fq fr ws q marks marks′ (pointAt l (depth - 1)) depth r → After marks′ (listed-after r) (r .depth)
+    of-deeper e = let t = e .tried in
+        let up : depth - 1 + 1 ≡ depth = omega arith in
+        let more : depth - 1 + 2 ≡ depth + 1 = omega arith in
+        subst (After marks′ (listed-after r)) (more ∙ sym (e .more)) (subst (λ (x : List ℕ). After x (listed-after r) (depth - 1 + 2)) (sym (e .same)) (subst (λ (p : Point). After marks (set (set l (depth - 1) p) depth (r .below)) (depth - 1 + 2)) (sym (t .beside))
+        (subst (λ (x : ℕ). After marks (set (set l (depth - 1) (record { link = nextOf (wordAt ws (pointAt l (depth - 1))); skip = pointAt l (depth - 1) .skip; place = pointAt l (depth - 1) .place })) x (r .below)) (depth - 1 + 2)) up (record {
+          again = deeper fq fr ws q marks₀ marks l depth i h (t .some) _ refl _ refl false _ _ _ (t .turned) (e .goes) refl;
+          fewer = deeper-less fq fr ws q marks₀ marks l depth i h (t .some) _ refl _ refl false _ _ _ (t .turned) (e .goes) refl;
+        }))))
+
+    pub turned : Became fq fr ws q marks marks′ (pointAt l (depth - 1)) depth r → Again fq fr ws q marks₀ l depth marks′ (set (set l (depth - 1) (r .beside)) depth (r .below)) (r .depth)
+    turned (inl e) = of-ended e
+    turned (inr (inl e)) = of-listed e
+    turned (inr (inr (inl e))) = of-passed e
+    turned (inr (inr (inr e))) = of-deeper e

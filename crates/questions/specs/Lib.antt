@@ -1,0 +1,6 @@
+pub mod Asking
+pub mod Demand2
+pub mod Walk
+pub mod Promises
+pub mod Listing
+pub mod Bare

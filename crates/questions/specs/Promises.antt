@@ -1,0 +1,126 @@
+-- What the search promises.
+use mathlib.Core.Path.{_≡_}
+use mathlib.Core.Logic.{_⊎_, _↔_}
+use mathlib.Core.List.{List, _++_}
+use mathlib.Core.Bool.{Bool, true, false}
+use Prim.Native.Nat.{ℕ, _+_, _-_, _*_, _^_, _≤_, _<_}
+use lib.ListN.{length, getD, set, drop}
+use Rattle.bits.specs.Packed.{bits}
+use Rattle.term.specs.Cells.{blankForm}
+use Rattle.term.specs.Machine.{failed, at, run, done}
+use Rattle.term.specs.Steps.{spot, Stands}
+use Rattle.tree.specs.Words.{cellOf, firstOf, nextOf}
+use Rattle.tree.specs.Tally.{marked}
+use Rattle.tree.specs.Promises.{Marked}
+use Rattle.book.specs.Rules.{rule}
+use Rattle.book.specs.Memory.{rulesIn}
+use Rattle.questions.specs.declared.Point.{Point}
+use Rattle.questions.specs.declared.Points.{Points}
+use Rattle.questions.specs.Asking.{numbers}
+use Rattle.questions.specs.Walk.{Walk, reading, listed, next, good}
+
+-- At a node whose word is w: the walk before it, and after it.
+abbrev pub walkBefore : List ℕ → ℕ → ℕ → Walk
+walkBefore question skip place = reading (spot question true skip place)
+
+abbrev pub walkAfter : Bool → Bool → List ℕ → ℕ → ℕ → ℕ → Walk
+walkAfter fq fr question w skip place = next fq fr (cellOf w) (walkBefore question skip place)
+
+pub record Goes (fq fr : Bool) (question : List ℕ) (w skip place down skip′ place′ : ℕ) : Type 0 where
+  pub walk : walkAfter fq fr question w skip place ≡ walkBefore question skip′ place′
+  pub child : down ≡ firstOf w
+  pub inside : place′ ≤ length question
+  pub few : skip′ ≤ skip + 7
+
+-- The node's rule is listed exactly when the walk was done; where there is a link to go down to, the walk goes on there; and where there is
+-- none, nothing below is to be found.
+pub record Turned (fq fr : Bool) (question : List ℕ) (w skip place : ℕ) (lists : Bool) (down skip′ place′ : ℕ) : Type 0 where
+  pub lists-is : lists ≡ good fq fr (walkAfter fq fr question w skip place)
+  pub goes : ¬ (down ≡ 0) → Goes fq fr question w skip place down skip′ place′
+  pub stops : down ≡ 0 → (walkAfter fq fr question w skip place ≡ reading failed) ⊎ ((walkAfter fq fr question w skip place ≡ listed) ⊎ (firstOf w ≡ 0))
+
+-- The sibling of the node with the word w stands at p's place, its first child above where there is a link to go down to.
+pub record Placed (w : ℕ) (p : Point) (down skip′ place′ depth : ℕ) (r : Points) : Type 0 where
+  pub beside : r .beside ≡ record { link = nextOf w; skip = p .skip; place = p .place }
+  pub below : r .below ≡ record { link = down; skip = skip′; place = place′ }
+  pub level : down ≡ 0 → r .depth ≡ depth
+  pub more : ¬ (down ≡ 0) → r .depth ≡ depth + 1
+
+-- the word of the node that a point's link names
+abbrev pub wordAt : List ℕ → Point → ℕ
+wordAt ws p = getD ws (72 + p .link) 0
+
+-- What a turn asks of the point that it tries: the machine can stand there, its node is in the tree, and a rule that is listed has a number with a mark.
+pub record Stood (fq fr : Bool) (ws question marks : List ℕ) (p : Point) (depth : ℕ) : Type 0 where
+  pub size : length ws ≡ 10313
+  pub stands : Stands question (p .skip) (p .place)
+  pub within : p .link ≤ 4608
+  pub some : 0 < depth
+  pub deep : depth ≤ 34
+  pub number : ¬ (p .link ≡ 0) → good fq fr (walkAfter fq fr question (wordAt ws p) (p .skip) (p .place)) ≡ true → cellOf (wordAt ws p) < 64 * length marks
+
+-- The point has no node, and goes.
+pub record Ended (marks marks′ : List ℕ) (p : Point) (depth : ℕ) (r : Points) : Type 0 where
+  pub none : p .link ≡ 0
+  pub same : marks′ ≡ marks
+  pub less : r .depth ≡ depth - 1
+
+-- It has one, and its sibling takes its place.
+pub record Tried (fq fr : Bool) (ws question : List ℕ) (p : Point) (r : Points) (lists : Bool) : Type 0 where
+  pub some : ¬ (p .link ≡ 0)
+  pub beside : r .beside ≡ record { link = nextOf (wordAt ws p); skip = p .skip; place = p .place }
+  pub turned : Turned fq fr question (wordAt ws p) (p .skip) (p .place) lists (r .below .link) (r .below .skip) (r .below .place)
+
+-- Then its rule is listed; or there is nothing below; or its first child stands above.
+pub record Answered (fq fr : Bool) (ws question marks marks′ : List ℕ) (p : Point) (depth : ℕ) (r : Points) : Type 0 where
+  pub tried : Tried fq fr ws question p r true
+  pub long : length marks′ ≡ length marks
+  pub mark : bits marks′ ≡ set (bits marks) (cellOf (wordAt ws p)) 1
+  pub level : r .depth ≡ depth
+
+pub record Passed (fq fr : Bool) (ws question marks marks′ : List ℕ) (p : Point) (depth : ℕ) (r : Points) : Type 0 where
+  pub tried : Tried fq fr ws question p r false
+  pub same : marks′ ≡ marks
+  pub ends : r .below .link ≡ 0
+  pub level : r .depth ≡ depth
+
+pub record Deeper (fq fr : Bool) (ws question marks marks′ : List ℕ) (p : Point) (depth : ℕ) (r : Points) : Type 0 where
+  pub tried : Tried fq fr ws question p r false
+  pub same : marks′ ≡ marks
+  pub goes : ¬ (r .below .link ≡ 0)
+  pub more : r .depth ≡ depth + 1
+
+-- What a turn at the point p makes of the marks and the list.
+abbrev pub Became : Bool → Bool → (ws question marks marks′ : List ℕ) → Point → ℕ → Points → Type 0
+Became fq fr ws question marks marks′ p depth r =
+    Ended marks marks′ p depth r ⊎ (Answered fq fr ws question marks marks′ p depth r ⊎ (Passed fq fr ws question marks marks′ p depth r ⊎ Deeper fq fr ws question marks marks′ p depth r))
+
+-- The point that the search begins with: the tree's first node, and the machine before all cells.
+pub record IsRoot (ws : List ℕ) (p : Point) : Type 0 where
+  pub words : (i : ℕ) → getD ws i 0 < 2 ^ 64
+  pub link : p .link ≡ firstOf (getD ws 72 0)
+  pub skip : p .skip ≡ 0
+  pub place : p .place ≡ 0
+
+-- It stands first on a list that is long enough.
+pub record Rooted (ws : List ℕ) (l : List Point) : Type 0 where
+  pub long : length l ≡ 35
+  pub root : IsRoot ws (getD l 0 (record { link = 0; skip = 0; place = 0 }))
+
+-- The rule with the number k answers, as the machine decides it.
+pub record Answering (fq fr : Bool) (ws question : List ℕ) (k : ℕ) : Type 0 where
+  pub term : List ℕ
+  pub held : rulesIn ws k ≡ rule term
+  pub accepted : done (run fq fr (at 0 (blankForm question)) (blankForm term)) ≡ true
+
+-- The marks afterwards are those before, and the numbers of the rules that answer; no other.
+abbrev pub Searched : Bool → Bool → (ws question marks marks′ : List ℕ) → Type 0
+Searched fq fr ws question marks marks′ = (k : ℕ) → Marked marks′ k ↔ (Marked marks k ⊎ Answering fq fr ws question k)
+
+-- The marks are the numbers of the rules that answer.
+abbrev pub Asked : Bool → Bool → (ws question marks : List ℕ) → Type 0
+Asked fq fr ws question marks = (k : ℕ) → Marked marks k ↔ Answering fq fr ws question k
+
+-- The marked numbers are written from the front of the cells, and the cells behind them stay.
+abbrev pub Lists : (marks out out′ : List ℕ) → Type 0
+Lists marks out out′ = out′ ≡ numbers (marked marks) 4096 ++ drop (length (numbers (marked marks) 4096)) out

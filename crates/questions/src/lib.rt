@@ -1,0 +1,224 @@
+// The four questions: one search over the book's tree.
+//
+// The points still to be tried stand on a list, one a level: a link, and where the machine stands before it. At a node the
+// machine takes one step. Where it goes on, the node's first child comes on the list; where it was done before, the node is
+// a rule that answers. Variants, instances, generalisations and unifiables differ in two flags and in nothing else.
+ghost use mathlib.Core.Path.{_≡_};
+ghost use Prim.Native.Nat.{_<_, _≤_};
+ghost use lib.ListN.{length};
+ghost use Rattle.term.specs.Steps.{Stands};
+ghost use Rattle.book.specs.Memory.{Passing};
+ghost use Rattle.book.specs.Promises.{IsTerm};
+ghost use Rattle.tree.specs.Tally.{marked};
+ghost use Rattle.questions.specs.Asking.{numbers};
+ghost use Rattle.questions.specs.Promises.{Turned, Placed, Stood, Became, IsRoot, Rooted, Searched, Asked, Lists};
+use term::machine;
+
+// A point still to be tried: a link, the subterms of a rule still to skip there, and the place in the question.
+pub struct Point {
+    pub link: usize,
+    pub skip: usize,
+    pub place: usize,
+}
+
+// What to do at a node: its rule is listed; or its first child is the link to go down to, with the machine's next spot; or
+// neither, and the link is 0.
+pub struct Decision {
+    pub listed: bool,
+    pub down: usize,
+    pub skip: usize,
+    pub place: usize,
+}
+
+// All that is decided at a node whose word is w.
+pub fn decide(
+    fills_question: bool,
+    fills_rule: bool,
+    question: &[u16],
+    w: u64,
+    skip: usize,
+    place: usize,
+) -> Decision
+    requires { ⌜ Stands (now question) skip place ⌝ }
+    ensures { λ r. ⌜ Turned «fills_question» «fills_rule» (now (question .entry)) w skip place (r .listed) (r .down) (r .skip) (r .place) ⌝ }
+{
+    if machine::accepts(question, skip, place) {
+        return Decision {
+            listed: true,
+            down: 0,
+            skip: 0,
+            place: 0,
+        };
+    }
+    let s = machine::step(
+        fills_question,
+        fills_rule,
+        question,
+        tree::cell_of(w) as u16,
+        skip,
+        place,
+    );
+    if s.alive {
+        return Decision {
+            listed: false,
+            down: tree::first_of(w) as usize,
+            skip: s.skip,
+            place: s.place,
+        };
+    }
+    Decision {
+        listed: false,
+        down: 0,
+        skip: 0,
+        place: 0,
+    }
+}
+
+// What the list becomes after a turn: the point that was tried, the point above it, and how many stand.
+pub struct Points {
+    pub beside: Point,
+    pub below: Point,
+    pub depth: usize,
+}
+
+// The points after the node with the word w was tried at the point p, the last of `depth`, and t was decided: its sibling
+// takes its place, and its first child stands above where there is one to try.
+pub fn place_points(w: u64, p: Point, t: Decision, depth: usize) -> Points
+    requires { ⌜ depth ≤ 34 ⌝ }
+    ensures { λ r. ⌜ Placed w p (t .down) (t .skip) (t .place) depth r ⌝ }
+{
+    let beside = Point {
+        link: tree::next_of(w) as usize,
+        skip: p.skip,
+        place: p.place,
+    };
+    let down = t.down;
+    let below = Point {
+        link: down,
+        skip: t.skip,
+        place: t.place,
+    };
+    if down == 0 {
+        return Points {
+            beside,
+            below,
+            depth,
+        };
+    }
+    Points {
+        beside,
+        below,
+        depth: depth + 1,
+    }
+}
+
+// A turn of the search at the point p, the last of `depth`: without a node the point goes; else one load, one step of the
+// machine, and the mark of a rule that is listed.
+pub fn turn(
+    m: &[u64],
+    fills_question: bool,
+    fills_rule: bool,
+    question: &[u16],
+    marks: &mut [u64],
+    p: Point,
+    depth: usize,
+) -> Points
+    requires { ⌜ Stood «fills_question» «fills_rule» (now m) (now question) (now marks) p depth ⌝ }
+    ensures { λ r. ⌜ Became «fills_question» «fills_rule» (now (m .entry)) (now (question .entry)) (now (marks .entry)) (now (marks .exit)) p depth r ⌝ }
+{
+    let x = p.link;
+    if x == 0 {
+        return Points {
+            beside: p,
+            below: p,
+            depth: depth - 1,
+        };
+    }
+    let w = m[72 + x];
+    let t = decide(fills_question, fills_rule, question, w, p.skip, p.place);
+    if t.listed {
+        bits::mark(marks, tree::cell_of(w) as usize);
+        return place_points(w, p, t, depth);
+    }
+    place_points(w, p, t, depth)
+}
+
+// The point that the search begins with.
+pub fn root(m: &[u64]) -> Point
+    requires { ⌜ Passing (now m) ⌝ }
+    ensures { λ r. ⌜ IsRoot (now (m .entry)) r ⌝ }
+{
+    let first = tree::first_of(m[72]) as usize;
+    Point {
+        link: first,
+        skip: 0,
+        place: 0,
+    }
+}
+
+// Marks the numbers of the rules that answer. The points still to be tried stand on the list that is lent, the root first.
+pub fn search(
+    m: &[u64],
+    fills_question: bool,
+    fills_rule: bool,
+    question: &[u16],
+    marks: &mut [u64],
+    list: &mut [Point],
+)
+    requires { ⌜ Passing (now m) × (IsTerm (now question) × ((length (now marks) ≡ 64) × Rooted (now m) (now list))) ⌝ }
+    ensures { λ _. ⌜ Searched «fills_question» «fills_rule» (now (m .entry)) (now (question .entry)) (now (marks .entry)) (now (marks .exit)) ⌝ }
+{
+    let mut depth: usize = 1;
+    while 0 < depth {
+        let k = depth - 1;
+        let p = list[k];
+        let t = turn(m, fills_question, fills_rule, question, marks, p, depth);
+        list[k] = t.beside;
+        list[depth] = t.below;
+        depth = t.depth;
+    }
+}
+
+// The same with the list made here, at the length that is always enough.
+pub fn mark_answers(
+    m: &[u64],
+    fills_question: bool,
+    fills_rule: bool,
+    question: &[u16],
+    marks: &mut [u64],
+)
+    requires { ⌜ Passing (now m) ⌝ }
+    requires { ⌜ IsTerm (now question) ⌝ }
+    requires { ⌜ length (now marks) ≡ 64 ⌝ }
+    ensures { λ _. ⌜ Searched «fills_question» «fills_rule» (now (m .entry)) (now (question .entry)) (now (marks .entry)) (now (marks .exit)) ⌝ }
+{
+    let first = root(m);
+    let mut list = [first; 35];
+    search(m, fills_question, fills_rule, question, marks, &mut list);
+}
+
+// The rules that answer, a mark at each number.
+pub fn ask(m: &[u64], fills_question: bool, fills_rule: bool, question: &[u16]) -> [u64; 64]
+    requires { ⌜ Passing (now m) ⌝ }
+    requires { ⌜ IsTerm (now question) ⌝ }
+    ensures { λ r. ⌜ Asked «fills_question» «fills_rule» (now (m .entry)) (now (question .entry)) r ⌝ }
+{
+    let mut marks = [0u64; 64];
+    mark_answers(m, fills_question, fills_rule, question, &mut marks);
+    marks
+}
+
+// Writes the marked numbers, ascending, from the front of `out`. They are as many as there are set bits.
+pub fn list(marks: &[u64], out: &mut [u16])
+    requires { ⌜ length (now marks) ≡ 64 ⌝ }
+    requires { ⌜ length (numbers (marked (now marks)) 4096) ≤ length (now out) ⌝ }
+    ensures { λ _. ⌜ Lists (now (marks .entry)) (now (out .entry)) (now (out .exit)) ⌝ }
+{
+    let mut n: usize = 0;
+    let mut k = bits::next_marked(marks, 0);
+    while k < 4096 {
+        out[n] = k as u16;
+        n += 1;
+        k = bits::next_marked(marks, k + 1);
+    }
+}
