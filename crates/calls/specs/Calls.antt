@@ -48,8 +48,8 @@ pub data ShowsNumbers (ws : List ℕ) (k : ℕ) (out out′ : List ℕ) (r size 
   failing : ¬ (Passing ws) → r ≡ 1 → size ≡ 0 → out′ ≡ out → ShowsNumbers ws k out out′ r size
   above : Passing ws → 4095 < k → r ≡ 2 → size ≡ 0 → out′ ≡ out → ShowsNumbers ws k out out′ r size
   short : Passing ws → length out < 32 → r ≡ 2 → size ≡ 0 → out′ ≡ out → ShowsNumbers ws k out out′ r size
-  not-held : Passing ws → k < 4096 → (b : Bool) (n : ℕ) (cells : List ℕ) → Shows ws k b n cells → b ≡ false → r ≡ 7 → size ≡ 0 → out′ ≡ out → ShowsNumbers ws k out out′ r size
-  held : Passing ws → k < 4096 → (b : Bool) (n : ℕ) (cells : List ℕ) → Shows ws k b n cells → b ≡ true → r ≡ 0 → size ≡ n → Copied 32 cells out out′ → ShowsNumbers ws k out out′ r size
+  not-held : Passing ws → k < 4096 → 32 ≤ length out → (b : Bool) (n : ℕ) (cells : List ℕ) → Shows ws k b n cells → b ≡ false → r ≡ 7 → size ≡ 0 → out′ ≡ out → ShowsNumbers ws k out out′ r size
+  held : Passing ws → k < 4096 → 32 ≤ length out → (b : Bool) (n : ℕ) (cells : List ℕ) → Shows ws k b n cells → b ≡ true → r ≡ 0 → size ≡ n → Copied 32 cells out out′ → ShowsNumbers ws k out out′ r size
 
 -- The room record.
 pub data CountsNumbers (ws : List ℕ) (r rules nodes : ℕ) : Type 0 where
@@ -69,6 +69,6 @@ pub data AsksNumbers (ws : List ℕ) (kind : ℕ) (q out out′ : List ℕ) (r c
   failing : ¬ (Passing ws) → r ≡ 1 → count ≡ 0 → out′ ≡ out → AsksNumbers ws kind q out out′ r count
   no-kind : Passing ws → (kind < 2) ⊎ (5 < kind) → r ≡ 2 → count ≡ 0 → out′ ≡ out → AsksNumbers ws kind q out out′ r count
   no-term : Passing ws → ¬ (IsTerm q) → r ≡ 2 → count ≡ 0 → out′ ≡ out → AsksNumbers ws kind q out out′ r count
-  short : Passing ws → IsTerm q → length out < length (answers (modeOf kind) q (rulesIn ws)) → r ≡ 2 → count ≡ 0 → out′ ≡ out → AsksNumbers ws kind q out out′ r count
-  listed : Passing ws → IsTerm q → r ≡ 0 → count ≡ length (answers (modeOf kind) q (rulesIn ws))
+  short : Passing ws → 2 ≤ kind → kind ≤ 5 → IsTerm q → length out < length (answers (modeOf kind) q (rulesIn ws)) → r ≡ 2 → count ≡ 0 → out′ ≡ out → AsksNumbers ws kind q out out′ r count
+  listed : Passing ws → 2 ≤ kind → kind ≤ 5 → IsTerm q → length (answers (modeOf kind) q (rulesIn ws)) ≤ length out → r ≡ 0 → count ≡ length (answers (modeOf kind) q (rulesIn ws))
       → out′ ≡ answers (modeOf kind) q (rulesIn ws) ++ drop (length (answers (modeOf kind) q (rulesIn ws))) out → AsksNumbers ws kind q out out′ r count

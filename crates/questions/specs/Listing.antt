@@ -5,8 +5,12 @@ use mathlib.Core.List.{List, [], _∷_, _++_, append-nil, List·Memᴰ}
 use mathlib.Core.Bool.{Bool, true, false}
 use Prim.Native.Nat.{ℕ, zero, suc, _+_, _-_, _*_, _≤_, _<_}
 use native.Mathlib.Omega.{arith}
-use lib.ListN.{length, length-append}
+use borrow.Author.Tests.{eq-eqb}
+use lib.Dec.{eqb}
+use lib.ListN.{length, getD, length-append}
+use lib.Seq.{ext-getD}
 use Rattle.bits.specs.Packed.{bits, sum}
+use Rattle.bits.specs.Laws.{length-bits, bit-low}
 use Rattle.term.specs.Cells.{blankForm}
 use Rattle.term.specs.Questions.{Mode}
 use Rattle.term.specs.Machine.{accepts, fillsQuestion, fillsRule}
@@ -86,3 +90,20 @@ exactly mode ws q marks p w a k =
     let same = numbers-answers mode ws q marks a in
     let l = lists mode q (rulesIn ws) w (limited ws p .whole) k in
     ((λ i. l .0 (subst (List·Memᴰ k) same i)), (λ x. subst (List·Memᴰ k) (sym same) (l .1 x)))
+
+-- One outcome: every bit of the marks is fixed, and books with the same rules give the same list.
+pub asked-once : (fq fr : Bool) (ws q a b : List ℕ) → length a ≡ 64 → length b ≡ 64 → Asked fq fr ws q a → Asked fq fr ws q b → bits a ≡ bits b
+asked-once fq fr ws q a b la lb x y = ext-getD 0 (bits a) (bits b) (length-bits a ∙ ap (λ (n : ℕ). 64 * n) (la ∙ sym lb) ∙ sym (length-bits b)) (λ k h. same k)
+  where
+    one : (m n : ℕ) → m < 2 → n < 2 → (eqb m 1 ≡ true → eqb n 1 ≡ true) → (eqb n 1 ≡ true → eqb m 1 ≡ true) → m ≡ n
+    one zero zero h i f g = refl
+    one zero (suc n) h i f g = absurd (true≢false (g (eq-eqb (suc n) 1 (omega arith))) refl)
+    one (suc m) zero h i f g = absurd (true≢false (f (eq-eqb (suc m) 1 (omega arith))) refl)
+    one (suc m) (suc n) h i f g = omega arith
+
+    same : (k : ℕ) → getD (bits a) k 0 ≡ getD (bits b) k 0
+    same k = one (getD (bits a) k 0) (getD (bits b) k 0) (bit-low a k) (bit-low b k) (λ m. y k .1 (x k .0 m)) (λ m. x k .1 (y k .0 m))
+
+pub asked-alike : (mode : Mode) (ws vs q a b : List ℕ) → rulesIn ws ≡ rulesIn vs → Asked (fillsQuestion mode) (fillsRule mode) ws q a → Asked (fillsQuestion mode) (fillsRule mode) vs q b
+    → numbers (marked a) 4096 ≡ numbers (marked b) 4096
+asked-alike mode ws vs q a b e x y = numbers-answers mode ws q a x ∙ ap (answers mode q) e ∙ sym (numbers-answers mode vs q b y)

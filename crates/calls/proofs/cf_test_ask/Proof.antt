@@ -54,7 +54,7 @@ returns-5 c =
     let s = e .before .before .before .before .before in
     let l : length (a .ask .result) ≡ 64 = search needs in
     let n = how-many (s .args .words .now) (s .args .question .now) (a .ask .result) (s .args .kind) (f .before .fills-question .result) (f .fills-rule .result) (f .before .fills-question .ensures) (f .fills-rule .ensures) (a .ask .ensures) l (c .before .count .result) (c .before .count .ensures) in
-    short (e .before .passes .ensures .yes (not-false _ (e .if1 .left))) (t .before .is-term .ensures .yes (not-false _ (t .if4 .left))) (subst (λ (k : ℕ). length (s .args .out .now) < k) n (c .if5 .taken)) refl refl refl
+    short (e .before .passes .ensures .yes (not-false _ (e .if1 .left))) (t .before .before .before .if2 .left) (t .before .before .if3 .left) (t .before .is-term .ensures .yes (not-false _ (t .if4 .left))) (subst (λ (k : ℕ). length (s .args .out .now) < k) n (c .if5 .taken)) refl refl refl
 
 slice-aggregate-list : tie.Need-slice-aggregate-list
 slice-aggregate-list c = search needs
@@ -79,7 +79,7 @@ returns-6 c =
     let s = e .before .before .before .before .before in
     let l : length (a .ask .result) ≡ 64 = search needs in
     let n = how-many (s .args .words .now) (s .args .question .now) (a .ask .result) (s .args .kind) (f .before .fills-question .result) (f .fills-rule .result) (f .before .fills-question .ensures) (f .fills-rule .ensures) (a .ask .ensures) l (c .before .before .before .before .before .before .before .count .result) (c .before .before .before .before .before .before .before .count .ensures) in
-    listed (e .before .passes .ensures .yes (not-false _ (e .if1 .left))) (t .before .is-term .ensures .yes (not-false _ (t .if4 .left))) refl (c .wide .ensures ∙ n) (listed-are (s .args .words .now) (s .args .question .now) (a .ask .result) (s .args .kind) (f .before .fills-question .result) (f .fills-rule .result) (f .before .fills-question .ensures) (f .fills-rule .ensures) (a .ask .ensures) _ _ (c .before .before .before .list .ensures))
+    listed (e .before .passes .ensures .yes (not-false _ (e .if1 .left))) (t .before .before .before .if2 .left) (t .before .before .if3 .left) (t .before .is-term .ensures .yes (not-false _ (t .if4 .left))) (subst (λ (k : ℕ). k ≤ length (s .args .out .now)) n (c .before .before .before .before .before .before .if5 .left)) refl (c .wide .ensures ∙ n) (listed-are (s .args .words .now) (s .args .question .now) (a .ask .result) (s .args .kind) (f .before .fills-question .result) (f .fills-rule .result) (f .before .fills-question .ensures) (f .fills-rule .ensures) (a .ask .ensures) _ _ (c .before .before .before .list .ensures))
 
 pub cf-test-ask-spec : {M : Type 1} → statement M
 cf-test-ask-spec =

@@ -29,7 +29,7 @@ returns-4 : tie.Need-returns-4
 returns-4 c =
     let s = c .before .before in
     let e = s .before .before .before in
-    not-held (e .before .passes .ensures .yes (not-false _ (e .if1 .left))) (omega arith) _ _ _ (s .show .ensures) (not-true _ (c .if4 .taken)) refl refl refl
+    not-held (e .before .passes .ensures .yes (not-false _ (e .if1 .left))) (omega arith) (s .before .if3 .left) _ _ _ (s .show .ensures) (not-true _ (c .if4 .taken)) refl refl refl
 
 returns-5 : tie.Need-returns-5
 returns-5 c =
@@ -37,7 +37,7 @@ returns-5 c =
     let f = p .before .before .before .before in
     let s = f .before .before in
     let e = s .before .before .before in
-    held (e .before .passes .ensures .yes (not-false _ (e .if1 .left))) (omega arith) _ _ _ (s .show .ensures) (not-false _ (f .if4 .left)) refl (c .wide .ensures) (p .copy .ensures)
+    held (e .before .passes .ensures .yes (not-false _ (e .if1 .left))) (omega arith) (s .before .if3 .left) _ _ _ (s .show .ensures) (not-false _ (f .if4 .left)) refl (c .wide .ensures) (p .copy .ensures)
 
 pub cf-test-show-spec : {M : Type 1} → statement M
 cf-test-show-spec =
