@@ -1,18 +1,22 @@
 # The two commands of the README: `make run` and `make test`. Each does all its own set-up.
-ARCHIVES := term claggyfoot calls
+ARCHIVES := term claggyfoot
+CELLS ?= examples/session.cells
+SECONDS ?= 60
+SEED ?= 1
 
-.PHONY: run test prove archives rust fmt
+SHOW := cargo run --offline --quiet --manifest-path rust/Cargo.toml -p show -- target/bin/session
 
-# A first look: what patterns are and how the four questions are answered.
-run:
-	@log=$$(mktemp); rt check patterns >$$log 2>&1 || { cat $$log; exit 1; }; rm -f $$log
-	@target/bin/patterns
+.PHONY: run test prove archives session rust examples soak bench fmt
 
-# Everything: the proofs from nothing, the must-fail edits and the programs (rt ci), then the archives beside the model.
-# The verdict of rt ci is printed once more as the last line, after all else has passed.
+# A session in words, and as the session program prints it: the paper's, or another: make run CELLS=examples/lamp.cells
+run: session
+	@$(SHOW) '$(CELLS)'
+
+# Everything: the proofs from nothing, the must-fail edits and the programs (rt ci), then the archives beside the model,
+# then the examples. The verdict of rt ci is printed once more as the last line, after all else has passed.
 test:
 	@log=$$(mktemp); rt ci >$$log 2>&1; status=$$?; cat $$log; mkdir -p target; mv $$log target/rt-ci.log; exit $$status
-	@$(MAKE) --no-print-directory rust
+	@$(MAKE) --no-print-directory rust examples
 	@tail -n 1 target/rt-ci.log
 
 # The proofs alone.
@@ -20,10 +24,36 @@ prove:
 	rt check
 
 archives:
-	@for name in $(ARCHIVES); do rt staticlib $$name >target/staticlib-$$name.log 2>&1 || { cat target/staticlib-$$name.log; exit 1; }; done
+	@mkdir -p target
+	@for name in $(ARCHIVES); do \
+		log=target/staticlib-$$name.log; rt staticlib $$name >$$log 2>&1 || { cat $$log; exit 1; }; \
+	done
 
-rust: archives
+# The session program, which `make run` shows and the tests run beside the model.
+session:
+	@log=$$(mktemp); rt check session >$$log 2>&1 || { cat $$log; exit 1; }; rm -f $$log
+
+rust: archives session
 	cd rust && cargo test --offline --quiet
+
+# The example programs and sessions, each beside what it has to print.
+examples: archives session
+	@$(CC) -std=c99 -Wall -Wextra -Werror -Iinclude -o target/adventure \
+		examples/c/adventure.c target/staticlib/libclaggyfoot.a
+	@target/adventure >target/adventure.out && diff examples/c/adventure.out target/adventure.out
+	@cargo run --offline --quiet --manifest-path rust/Cargo.toml -p claggyfoot --example adventure >target/adventure.out
+	@diff examples/c/adventure.out target/adventure.out
+	@$(SHOW) examples/session.cells >target/session.out && diff examples/session.out target/session.out
+	@$(SHOW) examples/lamp.cells >target/lamp.out && diff examples/lamp.out target/lamp.out
+	@echo 'examples: each prints what it has to'
+
+# The archive beside the model for as long as told: make soak SECONDS=600 SEED=7
+soak: archives
+	cd rust && env SECONDS=$(SECONDS) SEED=$(SEED) cargo run --offline --quiet --release -p soak
+
+# How long the calls take, beside three other ways to hold the rules: tables, target/bench.csv, docs/performance.svg.
+bench: archives
+	cd rust && cargo run --offline --quiet --release -p bench
 
 fmt:
 	rt fmt

@@ -18,10 +18,10 @@ use Rattle.tree.specs.Shape.{Shape}
 use Rattle.book.specs.Rules.{Held, nothing, rule, isHeld, pickHeld, withoutRule}
 use Rattle.book.specs.Memory.{View, view, taken, number, term, heldAt, rulesOf, Passing, rulesIn}
 use Rattle.book.specs.Holding.{term-at, term-size}
-use Rattle.book.specs.Promises.{Shows, shownSize, shownCells, pickPlace, Removes, removal, Gone, NotHeld}
+use Rattle.book.specs.Promises.{Shows, shownSize, shownCells, pickPlace, TakesNone, Removes, removal, Gone, NotHeld}
 use Rattle.book.specs.Change.{removed-right, removed-rules}
 use Rattle.book.specs.Change.{Removed as Taken-away}
-use Rattle.tree.specs.Change.{Trimmed}
+use Rattle.tree.specs.Change.{Trimmed, root, stays, goes}
 use Rattle.book.proofs.Filling.{fields-long, zeros-are}
 use Rattle.book.proofs.Parts.{Elsewhere, window, front-part, front-is}
 use Rattle.book.proofs.Looking.{nodes-low}
@@ -103,7 +103,7 @@ shows-rule ws k r size cells p at es ec = record {
 -- ---- nothing to remove
 
 pub nothing-removed : (ws : List ℕ) (k : ℕ) → Passing ws → rulesIn ws k ≡ nothing → Removes ws ws k NotHeld
-nothing-removed ws k p e = record { answer = sym (ap removal e); passes = p; rules = fun-ext (λ j. go j (ℕ-discrete j k)); same = λ _. refl }
+nothing-removed ws k p e = record { answer = sym (ap removal e); passes = p; rules = fun-ext (λ j. go j (ℕ-discrete j k)); nodes = record { were = λ n l u. u }; same = λ _. refl }
   where
     go : (j : ℕ) → Dec (j ≡ k) → rulesIn ws j ≡ withoutRule (rulesIn ws) k j
     go j (yes q) = ap (rulesIn ws) q ∙ e ∙ sym (ap (λ (b : Bool). pickHeld b nothing (rulesIn ws j)) (eq-eqb j k q))
@@ -132,11 +132,18 @@ tree-only ws t size lt = record {
 
 -- ---- a rule removed
 
+-- trimming brings no node into use
+trimmed-used : {m m′ : Shape} {l : ℕ} → Trimmed m l m′ → (y : ℕ) → m′ .used y ≡ true → m .used y ≡ true
+trimmed-used root y u = u
+trimmed-used (stays e) y u = u
+trimmed-used (goes {m} {m₁} {m′} {n} s out rest) y u = let v = trimmed-used rest y u in sym (out .kept .used y (λ e. true≢false v (ap (m₁ .used) e ∙ out .gone))) ∙ v
+
 pub rule-gone : (ws : List ℕ) (k r : ℕ) → Passing ws → Placed ws k r → (t : List ℕ) → length t ≡ 4681 → Trimmed (shape (take 4681 ws)) (suc (4096 + r)) (shape t) → Removes ws (t ++ drop 4681 ws) k Gone
 rule-gone ws k r p at t lt tr = record {
   answer = sym (ap removal (at .rule-is));
   passes = record { size = o .long ∙ p .size; right = removed-right (view ws) (view (t ++ drop 4681 ws)) r (nodes-low ws (p .size)) (p .right) removed };
   rules = fun-ext (λ j. removed-rules (view ws) (view (t ++ drop 4681 ws)) r (nodes-low ws (p .size)) (p .right) removed j ∙ ap (λ (n : ℕ). withoutRule (rulesIn ws) n j) (at .has));
+  nodes = record { were = λ n l u. trimmed-used (removed .trimmed) n u };
   same = λ e. absurd (gone-held e);
 }
   where

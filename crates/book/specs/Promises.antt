@@ -33,6 +33,10 @@ pub record TakesLowest (m m′ : Shape) : Type 0 where
   pub kept : (n : ℕ) → n < 4096 → m .used n ≡ true → m′ .used n ≡ true
   pub lowest : (n : ℕ) → n < 4096 → m .used n ≡ false → m′ .used n ≡ true → (j : ℕ) → j < n → m′ .used j ≡ true
 
+-- No node comes into use.
+pub record TakesNone (m m′ : Shape) : Type 0 where
+  pub were : (n : ℕ) → n < 4096 → m′ .used n ≡ true → m .used n ≡ true
+
 -- An add answers as the rules judge it. Where the rule is taken the book passes with it; where it is refused nothing has changed.
 pub record Adds (ws ws′ : List ℕ) (k : ℕ) (t : List ℕ) (r : Added) : Type 0 where
   pub answer : r ≡ judged (rulesIn ws) k t
@@ -45,11 +49,12 @@ abbrev pub removal : Held → Removed
 removal nothing = NotHeld
 removal (rule t) = Gone
 
--- A remove answers 0 or 7, and the book passes without the rule; where there is none nothing has changed.
+-- A remove answers 0 or 7, and the book passes without the rule, with no new node; where there is none nothing has changed.
 pub record Removes (ws ws′ : List ℕ) (k : ℕ) (r : Removed) : Type 0 where
   pub answer : r ≡ removal (rulesIn ws k)
   pub passes : Passing ws′
   pub rules : rulesIn ws′ ≡ withoutRule (rulesIn ws) k
+  pub nodes : TakesNone (view ws .tree) (view ws′ .tree)
   pub same : r ≡ NotHeld → ws′ ≡ ws
 
 -- The paper's number of each answer to a remove.

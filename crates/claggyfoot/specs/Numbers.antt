@@ -1,4 +1,4 @@
--- The promises of the calls on a name table, in the paper's numbers.
+-- The promises of the calls in the paper's numbers, where a call below answers an enum or a bool.
 use mathlib.Core.Path.{_≡_, sym, ap, _∙_}
 use mathlib.Core.List.{List}
 use Prim.Native.Nat.{ℕ}
@@ -6,6 +6,7 @@ use Rattle.names.specs.Calls.{Enters, entryRefusal, entryNumber, Stands, placeR
 use Rattle.names.specs.declared.Entry.{Entry}
 use Rattle.names.specs.declared.Place.{Place}
 use Rattle.names.specs.Once.{enters-once, stands-once}
+use Rattle.book.specs.Memory.{Passing}
 
 -- The promise of `cf_name_enter`: the numbers of an answer that `enter` gives, and the table after it.
 pub record EntersNumbers (before name : List ℕ) (refusal number : ℕ) (after : List ℕ) : Type 0 where
@@ -51,3 +52,15 @@ stands-numbers-once a b c d e f p q =
       start = p .start-is ∙ ap placeStart same ∙ sym (q .start-is);
       size = p .size-is ∙ ap placeSize same ∙ sym (q .size-is);
     }
+
+-- The promise of `cf_book_passes`.
+pub data ChecksNumber (ws : List ℕ) (r : ℕ) : Type 0 where
+  passing : Passing ws → r ≡ 0 → ChecksNumber ws r
+  failing : ¬ (Passing ws) → r ≡ 1 → ChecksNumber ws r
+
+-- It allows one outcome.
+pub checks-number-once : (ws : List ℕ) (r s : ℕ) → ChecksNumber ws r → ChecksNumber ws s → r ≡ s
+checks-number-once ws r s (passing p e) (passing q f) = e ∙ sym f
+checks-number-once ws r s (passing p e) (failing q f) = absurd (q p)
+checks-number-once ws r s (failing p e) (passing q f) = absurd (p q)
+checks-number-once ws r s (failing p e) (failing q f) = e ∙ sym f

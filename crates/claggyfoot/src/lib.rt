@@ -1,6 +1,9 @@
 // What C and Rust link. Each function wraps one call of the crates below it, and promises what that call promises, in numbers.
 ghost use mathlib.Core.Path.{_≡_};
-ghost use Rattle.claggyfoot.specs.Numbers.{EntersNumbers, StandsNumbers};
+ghost use Rattle.book.specs.Promises.{Empties};
+ghost use Rattle.batch.specs.Promises.{Runs};
+ghost use Rattle.claggyfoot.specs.Numbers.{EntersNumbers, StandsNumbers, ChecksNumber};
+use book::Book;
 
 // What `cf_name_enter` answers: 0 and the number of the name's slot, or the refusal and 0.
 #[repr(C)]
@@ -15,6 +18,14 @@ pub struct NamePlace {
     pub refusal: u64,
     pub start: u64,
     pub length: u64,
+}
+
+// What `cf_batch` answers: the stop number, command cells used, output cells written.
+#[repr(C)]
+pub struct BatchEnded {
+    pub stop: u64,
+    pub used: u64,
+    pub written: u64,
 }
 
 fn wide(n: usize) -> u64
@@ -45,5 +56,45 @@ pub extern "C" fn cf_name_of(table: &[u8], number: u64) -> NamePlace
         refusal: names::place_refusal(place),
         start: wide(names::place_start(place)),
         length: wide(names::place_size(place)),
+    }
+}
+
+// The length of a book's memory in words.
+#[no_mangle]
+pub extern "C" fn cf_book_words() -> u64
+    ensures { λ r. ⌜ r ≡ 10313 ⌝ }
+{
+    wide(Book::WORDS)
+}
+
+// Makes an empty book: 0, or 1 on a wrong length.
+#[no_mangle]
+pub extern "C" fn cf_book_empty(book: &mut [u64]) -> u64
+    ensures { λ r. ⌜ Empties (now (book .entry)) (now (book .exit)) r ⌝ }
+{
+    Book::empty(book)
+}
+
+// The check alone: 0 where the memory passes, else 1.
+#[no_mangle]
+pub extern "C" fn cf_book_passes(book: &[u64]) -> u64
+    ensures { λ r. ⌜ ChecksNumber (now (book .entry)) r ⌝ }
+{
+    if book::check::passes(book) {
+        return 0;
+    }
+    1
+}
+
+// Runs a batch of commands.
+#[no_mangle]
+pub extern "C" fn cf_batch(book: &mut [u64], cells: &[u16], out: &mut [u16]) -> BatchEnded
+    ensures { λ r. ⌜ Runs (now (book .entry)) (now (book .exit)) (now (cells .entry)) (now (out .entry)) (now (out .exit)) (r .stop) (r .used) (r .written) ⌝ }
+{
+    let ended = batch::run(book, cells, out);
+    BatchEnded {
+        stop: ended.stop,
+        used: wide(ended.used),
+        written: wide(ended.written),
     }
 }

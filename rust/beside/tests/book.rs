@@ -1,15 +1,14 @@
 //! The proved calls on a book beside the model's, step by step.
 
-mod common;
-
 use std::collections::BTreeMap;
 
 use beside::book_calls::{self, RoomLeft, RuleShown};
+use beside::lent::Lent;
 use beside::memory::{self, Link};
-use common::{few, rewrite, times, Lent};
+use beside::shapes::{few, rewrite, times};
 use model::book::{Book, Refusal};
 use model::random::{damaged, term_cells, Random};
-use model::term::Term;
+use model::term::{read, Term};
 
 /// Which nodes and places must be used: a beginning gets the free node of lowest number when it comes, and gives it back
 /// when no rule has it any more; a rule gets the lowest free place.
@@ -153,7 +152,7 @@ fn number_of(answer: Result<(), Refusal>) -> u64 {
 
 /// The archive's book, the model's, and the nodes that must be used.
 struct Pair {
-    lent: Lent,
+    lent: Lent<u64>,
     model: Book,
     numbering: Numbering,
 }
@@ -181,9 +180,10 @@ impl Pair {
         let found = self
             .lent
             .call(|words| book_calls::add(words, number, cells));
-        let term = Term::read(cells, 0).ok();
-        let term = term.filter(|term| number <= 4_095 && term.cells() == cells);
-        let wanted = term.map_or(2, |term| number_of(self.model.add(number as u16, term)));
+        let wanted = match Term::read(cells, 0) {
+            Ok(term) => number_of(self.model.add(number as u16, term)),
+            Err(fault) => u64::from(fault.number()),
+        };
         assert_eq!(found, wanted, "{number} {cells:x?}");
         if found == 0 {
             self.numbering.add(number as u16, cells);
@@ -206,10 +206,7 @@ impl Pair {
     fn remove(&mut self, number: u64) -> u64 {
         let before = self.lent.words().to_vec();
         let found = self.lent.call(|words| book_calls::remove(words, number));
-        let wanted = match number {
-            0..=4_095 => number_of(self.model.remove(number as u16)),
-            _ => 2,
-        };
+        let wanted = number_of(self.model.remove(number as u16));
         assert_eq!(found, wanted, "{number}");
         if found == 0 {
             self.numbering.remove(number as u16);
@@ -221,24 +218,23 @@ impl Pair {
         found
     }
 
-    /// Both show the same under a number; cells past the 32 stay, and so do all when there is nothing to show.
+    /// Both show the same under a number; cells past the record stay as they are.
     fn show(&mut self, number: u64, room: usize) {
         let mut out = vec![0xabcd; 8 + room + 8];
         let lent = &mut out[8..8 + room];
         let found = self.unchanged(|words| book_calls::show(words, number, lent));
-        let shown = match number {
-            _ if room < 32 => Err(2),
-            0..=4_095 => self.model.show(number as u16).map_err(Refusal::number),
-            _ => Err(2),
+        let record = match self.model.show(number as u16) {
+            Ok(cells) => [&[cells.len() as u16], cells].concat(),
+            Err(refusal) => vec![refusal.number() << 12],
         };
         let mut wanted = vec![0xabcd; 8 + room + 8];
-        let (refusal, size) = match shown {
-            Ok(cells) => {
-                wanted[8..40].copy_from_slice(&padded(cells));
-                (0, cells.len() as u64)
-            }
-            Err(refusal) => (u64::from(refusal), 0),
+        let (refusal, size) = if record.len() > room {
+            (10, 0)
+        } else {
+            wanted[8..8 + record.len()].copy_from_slice(&record);
+            (record[0] >> 12, record.len() - 1)
         };
+        let (refusal, size) = (u64::from(refusal), size as u64);
         assert_eq!(found, RuleShown { refusal, size }, "{number}");
         assert_eq!(out, wanted, "{number}");
     }
@@ -269,26 +265,33 @@ impl Pair {
 
     /// Every number is shown alike.
     fn all_shown(&mut self) {
-        (0..4_096).for_each(|number| self.show(number, 32));
+        (0..4_096).for_each(|number| self.show(number, 33));
     }
 
     /// One random call.
     fn step(&mut self, random: &mut Random, numbers: usize) {
         let number = match random.below(60) {
-            0 => random.pick(&[4_095, 4_096, 65_536, 1 << 32, u64::MAX]),
+            0 => 4_095,
             1 => random.below(4_096) as u64,
             _ => random.below(numbers) as u64,
         };
         match random.below(20) {
-            0 => _ = self.add(number, &damaged(random)),
-            1 => _ = self.add(number, &[few(random), vec![random.cell()]].concat()),
-            2..=10 => _ = self.add(number, &few(random)),
+            0 => _ = self.add(number, &to_its_end(damaged(random))),
+            1..=10 => _ = self.add(number, &few(random)),
             11..=16 => _ = self.remove(number),
             17 => _ = self.room(),
             18 => self.show(number, random.below(70)),
-            _ => self.show(number, 32),
+            _ => self.show(number, 33),
         }
     }
+}
+
+/// The cells up to the end of the term with which they begin, or all where there is none.
+fn to_its_end(mut cells: Vec<u16>) -> Vec<u16> {
+    if let Ok(length) = read(&cells, 0) {
+        cells.truncate(length);
+    }
+    cells
 }
 
 /// The link chain of 32 cells that begins with a symbol of its own.
@@ -342,22 +345,16 @@ fn the_node_count_of_the_paper() {
 fn cells_that_are_no_rule() {
     let mut pair = Pair::empty();
     pair.add(3, &[0x2001, 0x8000, 0x8001]);
-    for cells in [
-        &[][..],
-        &[0x2001, 0x0002],
-        &[0x8001],
-        &[0x0002, 0x0002],
-        &[0x9000],
-        &[0x1004; 32],
-        &[0x1004; 33],
+    for (cells, refusal) in [
+        (&[][..], 3),
+        (&[0x2001, 0x0002], 3),
+        (&[0x8001], 4),
+        (&[0x9000], 4),
+        (&[0x1004; 32], 5),
+        (&[0x1004; 33], 5),
     ] {
-        assert_eq!(pair.add(3, cells), 2);
-        assert_eq!(pair.add(4, cells), 2);
-    }
-    for number in [4_096, 4_099, 1 << 16, 3 + (1 << 16), u64::MAX] {
-        assert_eq!(pair.add(number, &[0x0002]), 2);
-        assert_eq!(pair.remove(number), 2);
-        pair.show(number, 32);
+        assert_eq!(pair.add(3, cells), refusal);
+        assert_eq!(pair.add(4, cells), refusal);
     }
     (0..=40).for_each(|room| pair.show(3, room));
     assert_eq!(pair.add(4_095, &[0x0002]), 0);

@@ -1,12 +1,11 @@
 //! The proved check beside the one that is written from the docs, on good, damaged and made-up memory.
 
-mod common;
-
 use std::collections::{BTreeMap, BTreeSet};
 
 use beside::book_calls::{self, RoomLeft, RuleShown};
+use beside::lent::Lent;
 use beside::memory::{self, Line, Link};
-use common::{few, put, put_field, rewrite, set_used, times, words_that_matter, Lent};
+use beside::shapes::{few, put, put_field, rewrite, set_used, times, words_that_matter};
 use model::random::Random;
 
 /// Memory with these rules.
@@ -62,19 +61,19 @@ fn calls_alike(words: &[u64]) -> Vec<Line> {
         return broken;
     }
     assert_eq!(lent.call(|words| book_calls::add(words, 1, &[0x0002])), 1);
-    assert_eq!(lent.call(|words| book_calls::add(words, 9_999, &[])), 1);
+    assert_eq!(lent.call(|words| book_calls::add(words, 4_095, &[])), 1);
     assert_eq!(lent.call(|words| book_calls::remove(words, 5)), 1);
-    assert_eq!(lent.call(|words| book_calls::remove(words, 9_999)), 1);
+    assert_eq!(lent.call(|words| book_calls::remove(words, 4_095)), 1);
     let refused = RuleShown {
         refusal: 1,
         size: 0,
     };
-    for number in [5, 9_999] {
+    for number in [5, 4_095] {
         let shown = lent.call(|words| book_calls::show(words, number, &mut out));
         assert_eq!(shown, refused);
     }
     assert_eq!(
-        lent.call(|words| book_calls::room(words)),
+        lent.call(book_calls::room),
         RoomLeft {
             refusal: 1,
             rules: 0,
@@ -87,19 +86,19 @@ fn calls_alike(words: &[u64]) -> Vec<Line> {
 }
 
 /// The rules that the page says are shown, their different beginnings counted.
-fn shown_alike(lent: &mut Lent) {
+fn shown_alike(lent: &mut Lent<u64>) {
     let rules = memory::rules(lent.words());
     let mut beginnings = BTreeSet::new();
     for (number, cells) in &rules {
         let form: Vec<u16> = cells.iter().map(|cell| memory::blank(*cell)).collect();
         beginnings.extend((1..=form.len()).map(|length| form[..length].to_vec()));
-        let mut out = [0xabcd; 32];
+        let mut out = [0xabcd; 33];
         let shown = lent.call(|words| book_calls::show(words, u64::from(*number), &mut out));
         assert_eq!((shown.refusal, shown.size), (0, cells.len() as u64));
-        assert_eq!(out[..cells.len()], cells[..]);
-        assert!(out[cells.len()..].iter().all(|cell| *cell == 0));
+        assert_eq!(out[1..=cells.len()], cells[..]);
+        assert!(out[1 + cells.len()..].iter().all(|cell| *cell == 0xabcd));
     }
-    let room = lent.call(|words| book_calls::room(words));
+    let room = lent.call(book_calls::room);
     let wanted = RoomLeft {
         refusal: 0,
         rules: rules.len() as u64,

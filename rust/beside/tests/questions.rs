@@ -1,9 +1,8 @@
 //! The proved search beside the model, which tests every rule one by one.
 
-mod common;
-
 use beside::book_calls::{self, RulesListed};
-use common::{few, rewrite, times, Lent};
+use beside::lent::Lent;
+use beside::shapes::{few, rewrite, times};
 use model::book::Book;
 use model::questions::Question;
 use model::random::{damaged, term_cells, Random};
@@ -19,7 +18,7 @@ const KINDS: [(u64, Question); 4] = [
 
 /// The archive's book and the model's.
 struct Pair {
-    lent: Lent,
+    lent: Lent<u64>,
     model: Book,
 }
 
@@ -58,7 +57,7 @@ impl Pair {
     fn ask(&mut self, kind: u64, question: Question, cells: &[u16]) -> Vec<u16> {
         let term = Term::read(cells, 0).expect("a term");
         let wanted = self.model.ask(question, &term);
-        for room in [wanted.len(), wanted.len() + 3, 520] {
+        for room in [1 + wanted.len(), 4 + wanted.len(), 520] {
             let mut out = vec![0xabcd; room];
             let before = self.lent.words().to_vec();
             let found = self
@@ -67,8 +66,10 @@ impl Pair {
             assert!(self.lent.words() == before);
             let count = wanted.len() as u64;
             assert_eq!(found, RulesListed { refusal: 0, count });
-            assert_eq!(out[..wanted.len()], wanted, "kind {kind}, {cells:x?}");
-            assert!(out[wanted.len()..].iter().all(|cell| *cell == 0xabcd));
+            assert_eq!(out[0], count as u16, "kind {kind}, {cells:x?}");
+            let (list, past) = out[1..].split_at(wanted.len());
+            assert_eq!(list, wanted, "kind {kind}, {cells:x?}");
+            assert!(past.iter().all(|cell| *cell == 0xabcd));
         }
         wanted
     }
@@ -243,40 +244,49 @@ fn the_inside_makes_no_difference() {
     }
 }
 
+/// Asks, and gives the refusal; book and output past the record stay as they are.
+fn refusal(words: &[u64], kind: u64, cells: &[u16], room: usize) -> u64 {
+    let mut lent = Lent::of(words);
+    let mut out = vec![0xabcd; room];
+    let found = lent.call(|words| book_calls::ask(words, kind, cells, &mut out));
+    assert!(lent.words() == words);
+    let record = usize::from(!matches!(found.refusal, 1 | 10));
+    assert!(out[record..].iter().all(|cell| *cell == 0xabcd));
+    assert_eq!(found.count, 0);
+    found.refusal
+}
+
 #[test]
 fn what_is_refused() {
     let mut pair = Pair::of(&[(1, &[0x0002]), (2, &[0x8000])]);
-    let refused = |words: &[u64], kind, cells: &[u16], room| {
-        let mut out = vec![0xabcd; room];
-        let found = book_calls::ask(words, kind, cells, &mut out);
-        assert!(out.iter().all(|cell| *cell == 0xabcd));
-        assert_eq!(found.count, 0);
-        found.refusal
-    };
-    for kind in [0, 1, 6, 7, 1 << 32, u64::MAX] {
-        assert_eq!(refused(pair.lent.words(), kind, &[0x8000], 600), 2);
+    let words = pair.lent.words().to_vec();
+    for kind in 8..16 {
+        assert_eq!(refusal(&words, kind, &[0x8000], 600), 2);
     }
-    for cells in [
-        &[][..],
-        &[0x1004],
-        &[0x8001],
-        &[0x0002, 0x0002],
-        &[0x1004; 33],
+    for (cells, wanted) in [
+        (&[][..], 3),
+        (&[0x1004], 3),
+        (&[0x8001], 4),
+        (&[0x1004; 33], 5),
     ] {
-        assert_eq!(refused(pair.lent.words(), 3, cells, 600), 2);
+        assert_eq!(refusal(&words, 3, cells, 600), wanted);
     }
-    assert_eq!(refused(pair.lent.words(), 3, &[0x8000], 1), 2);
-    assert_eq!(refused(pair.lent.words(), 3, &[0x8000], 0), 2);
-    assert_eq!(refused(&pair.lent.words()[1..], 3, &[0x8000], 600), 1);
-    let mut broken = pair.lent.words().to_vec();
+    for room in 0..3 {
+        assert_eq!(refusal(&words, 3, &[0x8000], room), 10);
+    }
+    assert_eq!(refusal(&words[1..], 3, &[0x8000], 600), 1);
+    let mut broken = words.clone();
     broken[0] ^= 1;
-    assert_eq!(refused(&broken, 3, &[0x8000], 600), 1);
+    assert_eq!(refusal(&broken, 3, &[0x8000], 600), 1);
     let mut random = Random::new(604);
     for _ in 0..times(300) {
         let cells = damaged(&mut random);
         match Term::read(&cells, 0) {
-            Ok(term) if term.cells() == cells => _ = pair.all_four(&cells),
-            _ => assert_eq!(refused(pair.lent.words(), 5, &cells, 600), 2),
+            Ok(term) => _ = pair.all_four(term.cells()),
+            Err(fault) => {
+                let number = u64::from(fault.number());
+                assert_eq!(refusal(&words, 5, &cells, 600), number);
+            }
         }
     }
 }

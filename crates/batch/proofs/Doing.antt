@@ -1,0 +1,188 @@
+-- What the book promises of each call is the effect of its command.
+use mathlib.Core.Path.{_≡_, refl, sym, ap, ap₂, _∙_, subst}
+use mathlib.Core.List.{List, [], _∷_, _++_}
+use mathlib.Core.Bool.{Bool, true, false}
+use Prim.Native.Nat.{ℕ, zero, suc, _+_, _-_, _*_, _≤_, _<_}
+use native.Mathlib.Omega.{arith}
+use native.Mathlib.Decide.{ℕ-discrete}
+use lib.Dec.{eqb}
+use lib.ListN.{length, take, drop, replicate}
+use lib.Seq.{take-append-seam}
+use Rattle.bits.specs.Packed.{bits, sum}
+use Rattle.term.specs.Counting.{true≢false}
+use Rattle.term.specs.Machine.{fillsQuestion, fillsRule}
+use Rattle.tree.specs.Shape.{Shape}
+use Rattle.tree.specs.Tally.{marked}
+use Rattle.book.specs.declared.Added.{Added}
+use Rattle.book.specs.declared.Added.the-variants.{Taken, HeldAlready, BookFull, NoNodes}
+use Rattle.book.specs.declared.Removed.{Removed}
+use Rattle.book.specs.Rules.{Held, nothing, rule, Rules, isHeld, withoutRule, addRefusal, after}
+use Rattle.book.specs.Memory.{view, Passing, rulesIn}
+use Rattle.book.specs.Promises.{Adds, Removes, removal, removeRefusal, Shows, shownSize, shownCells}
+use Rattle.book.specs.Facts.{limited}
+use Rattle.questions.specs.Asking.{numbers, answers}
+use Rattle.questions.specs.Demand2.{never-more}
+use Rattle.questions.specs.Promises.{Asked, Lists}
+use Rattle.questions.specs.Listing.{numbers-count, numbers-answers}
+use Rattle.batch.specs.Records.{Record, bare, good}
+use Rattle.batch.specs.Commands.{Command, Add, Remove, Ask, Show, Room, Stops, modeOf, Change, more, less, Effect, tells, changeOf, adds, changeAt, removes, asks, shown, shows, counts, does}
+use Rattle.batch.specs.Promises.{Writes, Along, none, grown, shrunk, Becomes, Does}
+
+not-none : {c : Change} {cs : List Change} → c ∷ cs ≡ [] → ⊥
+not-none e = let z : _≡_ {A = ℕ} 0 1 = cc in omega arith
+
+-- nothing has changed
+pub stays : (ws : List ℕ) → Passing ws → Becomes ws ws (rulesIn ws) []
+stays ws p = record { passes = p; rules-are = refl; nodes = none; same = λ _. refl }
+
+pub told : (ws out out′ : List ℕ) (n : ℕ) (r : Record) → Passing ws → Writes r out out′ n → Does (tells r (rulesIn ws)) ws ws out out′ n
+told ws out out′ n r p w = record { writes = w; fits = λ _. stays ws p; short = λ _. refl }
+
+pub no-room-for : (ws out : List ℕ) (e : Effect) → length out ≤ length (e .answer .cells) → Writes (e .answer) out out 0 → Does e ws ws out out 0
+no-room-for ws out e h w = record { writes = w; fits = λ l. absurd (omega arith); short = λ _. refl }
+
+-- ---- adding
+
+module _ (ws ws′ : List ℕ) (k : ℕ) (t : List ℕ) where
+  refused : (a : Added) → changeOf a ≡ [] → ¬ (a ≡ Taken) → Adds ws ws′ k t a → Becomes ws ws′ (after a (rulesIn ws) k t) (changeOf a)
+  refused a e d x = record {
+    passes = x .passes;
+    rules-are = x .rules;
+    nodes = subst (λ (cs : List Change). Along cs (view ws .tree) (view ws′ .tree)) (sym e) (subst (λ (z : List ℕ). Along [] (view ws .tree) (view z .tree)) (sym (x .same d)) none);
+    same = λ _. x .same d;
+  }
+
+  added : (a : Added) → Adds ws ws′ k t a → Becomes ws ws′ (after a (rulesIn ws) k t) (changeOf a)
+  added Taken x = record { passes = x .passes; rules-are = x .rules; nodes = grown (x .nodes) none; same = λ e. absurd (not-none e) }
+  added HeldAlready x = refused HeldAlready refl (λ e. let z : _≡_ {A = ℕ} 0 1 = cc in omega arith) x
+  added BookFull x = refused BookFull refl (λ e. let z : _≡_ {A = ℕ} 0 1 = cc in omega arith) x
+  added NoNodes x = refused NoNodes refl (λ e. let z : _≡_ {A = ℕ} 0 1 = cc in omega arith) x
+
+  abbrev effect : Added → Effect
+  effect a = record { answer = bare (addRefusal a); rules = after a (rulesIn ws) k t; changes = changeOf a }
+
+  pub add-done : (a : Added) (refusal : ℕ) (out out′ : List ℕ) (n : ℕ) → 0 < length out → Adds ws ws′ k t a → refusal ≡ addRefusal a → Writes (bare refusal) out out′ n → Does (adds (rulesIn ws) k t) ws ws′ out out′ n
+  add-done a refusal out out′ n h x e w =
+      subst (λ (b : Added). Does (effect b) ws ws′ out out′ n) (x .answer)
+      (record { writes = subst (λ (j : ℕ). Writes (bare j) out out′ n) e w; fits = λ _. added a x; short = λ l. absurd (omega arith) })
+
+pub low-refusal : (a : Added) → addRefusal a < 16
+low-refusal Taken = omega arith
+low-refusal HeldAlready = omega arith
+low-refusal BookFull = omega arith
+low-refusal NoNodes = omega arith
+
+-- ---- removing
+
+pub low-removal : (a : Removed) → removeRefusal a < 16
+low-removal Rattle.book.specs.declared.Removed.the-variants.Gone = omega arith
+low-removal Rattle.book.specs.declared.Removed.the-variants.NotHeld = omega arith
+
+module _ (ws ws′ : List ℕ) (k : ℕ) (a : Removed) (x : Removes ws ws′ k a) where
+  removed : (h : Held) → rulesIn ws k ≡ h → Becomes ws ws′ (withoutRule (rulesIn ws) k) (changeAt h)
+  removed (rule t) e = record { passes = x .passes; rules-are = x .rules; nodes = shrunk (x .nodes) none; same = λ q. absurd (not-none q) }
+  removed nothing e =
+      let s = x .same (x .answer ∙ ap removal e) in
+      record { passes = x .passes; rules-are = x .rules; nodes = subst (λ (z : List ℕ). Along [] (view ws .tree) (view z .tree)) (sym s) none; same = λ _. s }
+
+  pub remove-done : (refusal : ℕ) (out out′ : List ℕ) (n : ℕ) → 0 < length out → refusal ≡ removeRefusal a → Writes (bare refusal) out out′ n → Does (removes (rulesIn ws) k) ws ws′ out out′ n
+  remove-done refusal out out′ n h e w = record {
+    writes = subst (λ (j : ℕ). Writes (bare j) out out′ n) (e ∙ ap removeRefusal (x .answer)) w;
+    fits = λ _. removed (rulesIn ws k) refl;
+    short = λ l. absurd (omega arith);
+  }
+
+-- ---- asking
+
+-- what holds of the four kinds holds of each from 2 to 5
+four : (P : ℕ → Type 0) (k : ℕ) → 2 ≤ k → k ≤ 5 → P 2 → P 3 → P 4 → P 5 → P k
+four P k a b p2 p3 p4 p5 = go2 (ℕ-discrete k 2)
+  where
+    go4 : ¬ (k ≡ 2) → ¬ (k ≡ 3) → Dec (k ≡ 4) → P k
+    go4 x y (yes e) = subst P (sym e) p4
+    go4 x y (no z) = subst P (sym (let h : k ≡ 5 = omega arith in h)) p5
+
+    go3 : ¬ (k ≡ 2) → Dec (k ≡ 3) → P k
+    go3 x (yes e) = subst P (sym e) p3
+    go3 x (no y) = go4 x y (ℕ-discrete k 4)
+
+    go2 : Dec (k ≡ 2) → P k
+    go2 (yes e) = subst P (sym e) p2
+    go2 (no x) = go3 x (ℕ-discrete k 3)
+
+pub question-filled : (k : ℕ) → 2 ≤ k → k ≤ 5 → ¬ (k ≡ 3) → eqb k 5 ≡ fillsQuestion (modeOf k)
+question-filled k a b = four (λ j. ¬ (j ≡ 3) → eqb j 5 ≡ fillsQuestion (modeOf j)) k a b (λ n. refl) (λ n. absurd (n refl)) (λ n. refl) (λ n. refl)
+
+pub rule-filled : (k : ℕ) → 2 ≤ k → k ≤ 5 → ¬ (k ≡ 4) → eqb k 5 ≡ fillsRule (modeOf k)
+rule-filled k a b = four (λ j. ¬ (j ≡ 4) → eqb j 5 ≡ fillsRule (modeOf j)) k a b (λ n. refl) (λ n. refl) (λ n. absurd (n refl)) (λ n. refl)
+
+module _ (ws q marks : List ℕ) (kind : ℕ) (a b : Bool) (ea : a ≡ fillsQuestion (modeOf kind)) (eb : b ≡ fillsRule (modeOf kind)) (asked : Asked a b ws q marks) where
+  pub these : numbers (marked marks) 4096 ≡ answers (modeOf kind) q (rulesIn ws)
+  these = numbers-answers (modeOf kind) ws q marks (subst (λ (x : Bool). Asked (fillsQuestion (modeOf kind)) x ws q marks) eb (subst (λ (x : Bool). Asked x b ws q marks) ea asked))
+
+  pub how-many : length marks ≡ 64 → (n : ℕ) → n ≡ sum (bits marks) → n ≡ length (answers (modeOf kind) q (rulesIn ws))
+  how-many l n e = e ∙ numbers-count marks l ∙ ap length these
+
+  pub few : Passing ws → length marks ≡ 64 → (n : ℕ) → n ≡ sum (bits marks) → n ≤ 512
+  few p l n e = omega (arith, how-many l n e, never-more (modeOf kind) q (rulesIn ws), limited ws p .few)
+
+  pub listed-are : (out out′ : List ℕ) → Lists marks out out′ → out′ ≡ answers (modeOf kind) q (rulesIn ws) ++ drop (length (answers (modeOf kind) q (rulesIn ws))) out
+  listed-are out out′ e = e ∙ ap (λ (z : List ℕ). z ++ drop (length z) out) these
+
+-- ---- showing
+
+pub record IsShown (ws : List ℕ) (k size : ℕ) (cells : List ℕ) : Type 0 where
+  pub record-is : shown (rulesIn ws k) ≡ good (take size cells)
+  pub sized : length (take size cells) ≡ size
+
+module _ (ws : List ℕ) (k : ℕ) (held : Bool) (size : ℕ) (cells : List ℕ) (x : Shows ws k held size cells) where
+  pub not-shown : held ≡ false → bare 7 ≡ shown (rulesIn ws k)
+  not-shown e = go (rulesIn ws k) refl
+    where
+      go : (h : Held) → rulesIn ws k ≡ h → bare 7 ≡ shown h
+      go nothing q = refl
+      go (rule t) q = absurd (true≢false (x .is-held ∙ ap isHeld q) e)
+
+  pub is-shown : held ≡ true → IsShown ws k size cells
+  is-shown e = go (rulesIn ws k) refl
+    where
+      go : (h : Held) → rulesIn ws k ≡ h → IsShown ws k size cells
+      go nothing q = absurd (true≢false e (x .is-held ∙ ap isHeld q))
+      go (rule t) q =
+          let s : size ≡ length t = x .sized ∙ ap shownSize q in
+          let same : take size cells ≡ t = ap₂ (λ (n : ℕ) (l : List ℕ). take n l) s (x .shown ∙ ap shownCells q) ∙ take-append-seam t (replicate (32 - length t) 0) in
+          record { record-is = ap shown q ∙ ap good (sym same); sized = ap length same ∙ sym s }
+
+-- ---- a command is done by what its kind says
+
+module _ (ws ws′ out out′ behind : List ℕ) (n : ℕ) (command : Command) where
+  abbrev Done : Effect → Type 0
+  Done e = Does e ws ws′ out out′ n
+
+  pub done : (c : Command) (e : Effect) → command ≡ c → does (rulesIn ws) behind c ≡ e → Done e → Done (does (rulesIn ws) behind command)
+  done c e q f d = subst Done (sym (ap (does (rulesIn ws) behind) q ∙ f)) d
+
+module _ (rules : Rules) (behind : List ℕ) where
+  pub does-add : (k size : ℕ) (t : List ℕ) → t ≡ take size behind → does rules behind (Add k size) ≡ adds rules k t
+  unfolding does
+  does-add k size t e = ap (adds rules k) (sym e)
+
+  pub does-remove : (k : ℕ) → does rules behind (Remove k) ≡ removes rules k
+  unfolding does
+  does-remove k = refl
+
+  pub does-ask : (kind size : ℕ) (q : List ℕ) → q ≡ take size behind → does rules behind (Ask kind size) ≡ asks rules kind q
+  unfolding does
+  does-ask kind size q e = ap (asks rules kind) (sym e)
+
+  pub does-show : (k : ℕ) → does rules behind (Show k) ≡ shows rules k
+  unfolding does
+  does-show k = refl
+
+  pub does-room : does rules behind Room ≡ counts rules
+  unfolding does
+  does-room = refl
+
+  pub does-stop : (refusal : ℕ) → does rules behind (Stops refusal) ≡ tells (bare refusal) rules
+  unfolding does
+  does-stop refusal = refl

@@ -1,0 +1,6 @@
+-- What the proofs of the batch share.
+pub mod Commanding
+pub mod Writing
+pub mod Doing
+pub mod Turning
+pub mod Looping

@@ -1,0 +1,17 @@
+-- Each kind has the flags of its question.
+use mathlib.Core.Path.{ap, sym}
+use Prim.Native.Nat.{ℕ}
+use Rattle.term.specs.Machine.{fillsQuestion}
+use Rattle.batch.specs.Commands.{modeOf}
+use Rattle.batch.proofs.Doing.{question-filled}
+use Rattle.batch.proofs.records.fills_question.Statement.{statement}
+use Rattle.batch.proofs.records.fills_question.Tie as tie
+
+returns : tie.Need-returns
+returns c = ap (λ (k : ℕ). fillsQuestion (modeOf k)) (sym (c .if1 .taken))
+
+returns-2 : tie.Need-returns-2
+returns-2 c = let s = c .before in question-filled (s .args .kind) (s .pre .0) (s .pre .1) (c .if1 .left)
+
+pub fills-question-spec : {M : Type 1} → statement M
+fills-question-spec = tie.close (tie.spec returns returns-2)

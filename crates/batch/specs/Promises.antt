@@ -1,0 +1,77 @@
+-- What the batch's functions promise.
+use mathlib.Core.Path.{_≡_}
+use mathlib.Core.List.{List, [], _∷_, _++_}
+use Prim.Native.Nat.{ℕ, suc, _≤_, _<_}
+use lib.ListN.{length, drop}
+use Rattle.term.specs.Reading.{readTerm}
+use Rattle.term.specs.declared.reading.Reading.the-variants.{Whole}
+use Rattle.tree.specs.Shape.{Shape}
+use Rattle.book.specs.Rules.{Rules}
+use Rattle.book.specs.Memory.{view, Passing, rulesIn}
+use Rattle.book.specs.Promises.{TakesLowest, TakesNone}
+use Rattle.batch.specs.Records.{Record, cellsOf, written}
+use Rattle.batch.specs.Commands.{Command, Add, Remove, Ask, Show, Room, Stops, Change, more, less, Effect}
+use Rattle.batch.specs.Run.{Outcome, run}
+
+-- What is known of a command that was read, with the cells behind its command cell.
+abbrev pub Read : List ℕ → Command → Type 0
+Read behind (Add number size) = (number < 4096) × (readTerm behind ≡ Whole size)
+Read behind (Remove number) = number < 4096
+Read behind (Ask kind size) = (2 ≤ kind) × (kind ≤ 5) × (readTerm behind ≡ Whole size)
+Read behind (Show number) = number < 4096
+Read behind Room = Unit {0}
+Read behind (Stops refusal) = refusal ≤ 5
+
+-- A record is written from the front of the output, and n says how many cells; or there is no room for it, and n is 0.
+pub record Writes (r : Record) (out out′ : List ℕ) (n : ℕ) : Type 0 where
+  pub fits : length (r .cells) < length out → (n ≡ suc (length (r .cells))) × (out′ ≡ cellsOf r ++ drop n out)
+  pub short : length out ≤ length (r .cells) → (n ≡ 0) × (out′ ≡ out)
+
+-- The nodes along the changes of the rules: one rule more takes the lowest free nodes, one less takes none.
+pub data Along : List Change → Shape → Shape → Type 0 where
+  none : {m : Shape} → Along [] m m
+  grown : {m m₁ m′ : Shape} {cs : List Change} → TakesLowest m m₁ → Along cs m₁ m′ → Along (more ∷ cs) m m′
+  shrunk : {m m₁ m′ : Shape} {cs : List Change} → TakesNone m m₁ → Along cs m₁ m′ → Along (less ∷ cs) m m′
+
+-- The memory afterwards passes and holds the rules; along the changes; and without any it is the same, word for word.
+pub record Becomes (ws ws′ : List ℕ) (rules : Rules) (changes : List Change) : Type 0 where
+  pub passes : Passing ws′
+  pub rules-are : rulesIn ws′ ≡ rules
+  pub nodes : Along changes (view ws .tree) (view ws′ .tree)
+  pub same : changes ≡ [] → ws′ ≡ ws
+
+-- A command is done, and its record written; or there is no room for it, and nothing has changed.
+pub record Does (e : Effect) (ws ws′ out out′ : List ℕ) (n : ℕ) : Type 0 where
+  pub writes : Writes (e .answer) out out′ n
+  pub fits : length (e .answer .cells) < length out → Becomes ws ws′ (e .rules) (e .changes)
+  pub short : length out ≤ length (e .answer .cells) → ws′ ≡ ws
+
+-- An outcome has come about: stop, used and written are its own; its records stand from the front of the output, and what stood behind them stays; the book holds its rules.
+pub record Came (o : Outcome) (ws ws′ out out′ : List ℕ) (stop used n : ℕ) : Type 0 where
+  pub stop-is : stop ≡ o .stop
+  pub used-is : used ≡ o .used
+  pub written-is : n ≡ length (written (o .records))
+  pub output : out′ ≡ written (o .records) ++ drop n out
+  pub book : Becomes ws ws′ (o .rules) (o .changes)
+
+-- A batch on a book that passes.
+abbrev pub Ran : (ws ws′ cells out out′ : List ℕ) → (stop used n : ℕ) → Type 0
+Ran ws ws′ cells out out′ stop used n = Came (run (rulesIn ws) cells (length out)) ws ws′ out out′ stop used n
+
+-- Memory that does not pass: 1, 0, 0, and nothing has changed.
+pub record Turned-away (ws ws′ out out′ : List ℕ) (stop used n : ℕ) : Type 0 where
+  pub stop-is : stop ≡ 1
+  pub used-is : used ≡ 0
+  pub written-is : n ≡ 0
+  pub output : out′ ≡ out
+  pub book : ws′ ≡ ws
+
+-- The promise of the batch call, for any memory, any cells and any room.
+pub data Runs (ws ws′ cells out out′ : List ℕ) (stop used n : ℕ) : Type 0 where
+  ran : Passing ws → Ran ws ws′ cells out out′ stop used n → Runs ws ws′ cells out out′ stop used n
+  turned-away : ¬ (Passing ws) → Turned-away ws ws′ out out′ stop used n → Runs ws ws′ cells out out′ stop used n
+
+-- What is left of it for memory that passes.
+pub passing : {ws ws′ cells out out′ : List ℕ} {stop used n : ℕ} → Runs ws ws′ cells out out′ stop used n → Passing ws → Ran ws ws′ cells out out′ stop used n
+passing (ran p r) q = r
+passing (turned-away n t) q = absurd (n q)

@@ -1,0 +1,160 @@
+// One command done, and its record written from the front of the output. Each function answers how many cells it wrote, and 0
+// where the record has no room; then nothing has changed.
+ghost use mathlib.Core.Path.{_≡_};
+ghost use mathlib.Core.List.{_++_};
+ghost use Prim.Native.Nat.{_+_, _<_, _≤_};
+ghost use lib.ListN.{length, take, drop};
+ghost use Rattle.term.specs.Machine.{fillsQuestion, fillsRule};
+ghost use Rattle.book.specs.Rules.{addRefusal};
+ghost use Rattle.book.specs.Memory.{Passing, rulesIn};
+ghost use Rattle.book.specs.Promises.{IsTerm, removeRefusal};
+ghost use Rattle.batch.specs.Records.{bare};
+ghost use Rattle.batch.specs.Commands.{adds, removes, asks, shows, counts, modeOf};
+ghost use Rattle.batch.specs.Promises.{Writes, Does};
+use book::Added;
+use book::Removed;
+
+fn add_refusal(answer: Added) -> u64
+    ensures { λ r. ⌜ r ≡ addRefusal answer ⌝ }
+{
+    match answer {
+        Added::Taken => 0,
+        Added::HeldAlready => 6,
+        Added::BookFull => 8,
+        Added::NoNodes => 9,
+    }
+}
+
+fn remove_refusal(answer: Removed) -> u64
+    ensures { λ r. ⌜ r ≡ removeRefusal answer ⌝ }
+{
+    match answer {
+        Removed::Gone => 0,
+        Removed::NotHeld => 7,
+    }
+}
+
+// May the question's blanks be filled? Kind 2 is variants, 3 instances, 4 generalisations, 5 unifiables.
+fn fills_question(kind: u16) -> bool
+    requires { ⌜ (2 ≤ kind) × (kind ≤ 5) ⌝ }
+    ensures { λ r. ⌜ r ≡ fillsQuestion (modeOf kind) ⌝ }
+{
+    if kind == 3 {
+        return true;
+    }
+    kind == 5
+}
+
+// May the rule's?
+fn fills_rule(kind: u16) -> bool
+    requires { ⌜ (2 ≤ kind) × (kind ≤ 5) ⌝ }
+    ensures { λ r. ⌜ r ≡ fillsRule (modeOf kind) ⌝ }
+{
+    if kind == 4 {
+        return true;
+    }
+    kind == 5
+}
+
+// A record of a refusal, or of 0, without further cells.
+pub fn put_bare(refusal: u64, out: &mut [u16]) -> usize
+    requires { ⌜ refusal < 16 ⌝ }
+    ensures { λ n. ⌜ Writes (bare refusal) (now (out .entry)) (now (out .exit)) n ⌝ }
+{
+    if out.len() == 0 {
+        return 0;
+    }
+    out[0] = (4096 * refusal) as u16;
+    1
+}
+
+// Copies the first `size` cells to the front of the output.
+fn copy(cells: &[u16], size: usize, out: &mut [u16])
+    requires { ⌜ (size ≤ length (now cells)) × (size ≤ length (now out)) ⌝ }
+    ensures { λ _. ⌜ now (out .exit) ≡ take size (now (cells .entry)) ++ drop size (now (out .entry)) ⌝ }
+{
+    let mut i: usize = 0;
+    while i < size {
+        out[i] = cells[i];
+        i += 1;
+    }
+}
+
+// Adds a rule. Whether the record has room is known before the book is touched.
+pub fn add(book: &mut [u64], number: u16, term: &[u16], out: &mut [u16]) -> usize
+    requires { ⌜ Passing (now book) ⌝ }
+    requires { ⌜ number < 4096 ⌝ }
+    requires { ⌜ IsTerm (now term) ⌝ }
+    ensures { λ n. ⌜ Does (adds (rulesIn (now (book .entry))) number (now (term .entry))) (now (book .entry)) (now (book .exit)) (now (out .entry)) (now (out .exit)) n ⌝ }
+{
+    if out.len() == 0 {
+        return 0;
+    }
+    let answer = book::change::add(book, number, term);
+    put_bare(add_refusal(answer), out)
+}
+
+// Removes a rule.
+pub fn remove(book: &mut [u64], number: u16, out: &mut [u16]) -> usize
+    requires { ⌜ Passing (now book) ⌝ }
+    requires { ⌜ number < 4096 ⌝ }
+    ensures { λ n. ⌜ Does (removes (rulesIn (now (book .entry))) number) (now (book .entry)) (now (book .exit)) (now (out .entry)) (now (out .exit)) n ⌝ }
+{
+    if out.len() == 0 {
+        return 0;
+    }
+    let answer = book::change::remove(book, number);
+    put_bare(remove_refusal(answer), out)
+}
+
+// Lists the rules that answer a question. How many they are is known before anything is written.
+pub fn ask(book: &[u64], kind: u16, question: &[u16], out: &mut [u16]) -> usize
+    requires { ⌜ Passing (now book) ⌝ }
+    requires { ⌜ (2 ≤ kind) × (kind ≤ 5) ⌝ }
+    requires { ⌜ IsTerm (now question) ⌝ }
+    ensures { λ n. ⌜ Writes (asks (rulesIn (now (book .entry))) kind (now (question .entry)) .answer) (now (out .entry)) (now (out .exit)) n ⌝ }
+{
+    let marks = questions::ask(book, fills_question(kind), fills_rule(kind), question);
+    let count = bits::count(&marks);
+    if out.len() <= count {
+        return 0;
+    }
+    out[0] = count as u16;
+    questions::list(&marks, &mut out[1..]);
+    count + 1
+}
+
+// Shows the cells of a rule.
+pub fn show(book: &[u64], number: u16, out: &mut [u16]) -> usize
+    requires { ⌜ Passing (now book) ⌝ }
+    requires { ⌜ number < 4096 ⌝ }
+    ensures { λ n. ⌜ Writes (shows (rulesIn (now (book .entry))) number .answer) (now (out .entry)) (now (out .exit)) n ⌝ }
+{
+    let shown = book::show(book, number);
+    if !shown.held {
+        return put_bare(7, out);
+    }
+    let size = shown.size;
+    if out.len() <= size {
+        return 0;
+    }
+    out[0] = size as u16;
+    let cells = shown.cells;
+    copy(&cells, size, &mut out[1..]);
+    size + 1
+}
+
+// Tells the rules held and the node count.
+pub fn room(book: &[u64], out: &mut [u16]) -> usize
+    requires { ⌜ Passing (now book) ⌝ }
+    ensures { λ n. ⌜ Writes (counts (rulesIn (now (book .entry))) .answer) (now (out .entry)) (now (out .exit)) n ⌝ }
+{
+    let counted = book::room(book);
+    if out.len() <= 2 {
+        return 0;
+    }
+    out[0] = 2;
+    out[1] = counted.rules as u16;
+    out[2] = counted.nodes as u16;
+    3
+}

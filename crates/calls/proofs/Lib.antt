@@ -1,3 +1,0 @@
--- What the proofs of the calls share.
-pub mod Steps
-pub mod Asking

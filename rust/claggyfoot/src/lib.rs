@@ -1,0 +1,50 @@
+//! A rule book for text adventures that is proved never to miss a rule.
+//!
+//! A rule is a number with a term. A term is a row of 16-bit cells in preorder ([`cell`]). The [`Book`] holds the rules
+//! and runs batches of commands: add, remove, show, room, and the four questions. A [`Batch`] writes commands, and
+//! [`records`] reads what came out. The [`Table`] gives names their numbers.
+//!
+//! ```
+//! use claggyfoot::{cell, records, Batch, Book, Stop, Table};
+//!
+//! # fn main() -> Result<(), Box<dyn std::error::Error>> {
+//! let mut names = Table::new(64)?;
+//! let put = cell::symbol(names.enter(b"put")?, 2)?;
+//! let lamp = cell::symbol(names.enter(b"lamp")?, 0)?;
+//! let cave = cell::symbol(names.enter(b"dark cave")?, 0)?;
+//! let x = cell::variable(0)?;
+//!
+//! // Rule 5 is put(lamp, X). Which rules could apply to put(lamp, dark cave)?
+//! let mut batch = Batch::new();
+//! batch.add(5, &[put, lamp, x])?;
+//! batch.generalisations(&[put, lamp, cave])?;
+//!
+//! let mut book = Book::empty();
+//! let mut out = [0; 100];
+//! let ended = book.run(batch.cells(), &mut out);
+//! assert_eq!(ended.stop, Stop::Done);
+//!
+//! let answers: Vec<&[u16]> = records(&out[..ended.written]).map(|record| record.cells).collect();
+//! assert_eq!(answers, [&[][..], &[5]]);
+//! # Ok(())
+//! # }
+//! ```
+//!
+//! The calls themselves are proved; this crate only lends them memory. All `unsafe` stands in [`ffi`].
+
+#![deny(unsafe_code)]
+
+mod batch;
+mod book;
+pub mod cell;
+#[allow(unsafe_code)]
+pub mod ffi;
+mod records;
+mod refusal;
+mod table;
+
+pub use batch::{Batch, NoCommand};
+pub use book::{Book, Ended};
+pub use records::{records, Record, Records};
+pub use refusal::{Refusal, Stop};
+pub use table::Table;

@@ -1,0 +1,57 @@
+//! `show PROGRAM FILE`: runs the session program on a file of cells, and prints what it answers in words and as it is.
+
+use std::error::Error;
+use std::io::{self, ErrorKind, Write};
+use std::process::{Command, ExitCode, Stdio};
+use std::{env, fs};
+
+use show::{file, listing, table};
+
+/// What the program prints for these cells.
+fn run(program: &str, cells: &[u16]) -> io::Result<String> {
+    let bytes: Vec<u8> = cells.iter().flat_map(|cell| cell.to_be_bytes()).collect();
+    let mut child = Command::new(program)
+        .stdin(Stdio::piped())
+        .stdout(Stdio::piped())
+        .spawn()?;
+    if let Some(mut input) = child.stdin.take() {
+        // It reads no more than it takes; what is left shows that there were too many.
+        match input.write_all(&bytes) {
+            Err(error) if error.kind() != ErrorKind::BrokenPipe => return Err(error),
+            _ => (),
+        }
+    }
+    let output = child.wait_with_output()?;
+    Ok(String::from_utf8_lossy(&output.stdout).into_owned())
+}
+
+fn show(program: &str, path: &str) -> Result<(), Box<dyn Error>> {
+    let text = fs::read_to_string(path).map_err(|error| format!("{path}: {error}"))?;
+    let session = file::read(&text).map_err(|wrong| format!("{path}, {wrong}"))?;
+    let printed = run(program, &session.cells).map_err(|error| format!("{program}: {error}"))?;
+    println!("{path}, {} cells, in words:\n", session.cells.len());
+    match listing::read(&printed) {
+        Some(listing) => println!(
+            "{}",
+            table(&session, &listing).ok_or("the words don't agree with the listing")?
+        ),
+        None => println!("bad input: a session has at most 4,096 cells\n"),
+    }
+    print!("What the session program prints:\n\n{printed}");
+    Ok(())
+}
+
+fn main() -> ExitCode {
+    let arguments: Vec<String> = env::args().skip(1).collect();
+    let [program, path] = &arguments[..] else {
+        eprintln!("usage: show PROGRAM FILE");
+        return ExitCode::from(2);
+    };
+    match show(program, path) {
+        Ok(()) => ExitCode::SUCCESS,
+        Err(error) => {
+            eprintln!("{error}");
+            ExitCode::FAILURE
+        }
+    }
+}
