@@ -123,11 +123,14 @@ module _ (ws q marks : List ℕ) (kind : ℕ) (a b : Bool) (ea : a ≡ fillsQues
   pub how-many : length marks ≡ 64 → (n : ℕ) → n ≡ sum (bits marks) → n ≡ length (answers (modeOf kind) q (rulesIn ws))
   how-many l n e = e ∙ numbers-count marks l ∙ ap length these
 
-  pub few : Passing ws → length marks ≡ 64 → (n : ℕ) → n ≡ sum (bits marks) → n ≤ 512
-  few p l n e = omega (arith, how-many l n e, never-more (modeOf kind) q (rulesIn ws), limited ws p .few)
+  pub as-many : (out out′ : List ℕ) (n : ℕ) → Lists marks out out′ n → n ≡ length (answers (modeOf kind) q (rulesIn ws))
+  as-many out out′ n l = l .count ∙ ap length these
 
-  pub listed-are : (out out′ : List ℕ) → Lists marks out out′ → out′ ≡ answers (modeOf kind) q (rulesIn ws) ++ drop (length (answers (modeOf kind) q (rulesIn ws))) out
-  listed-are out out′ e = e ∙ ap (λ (z : List ℕ). z ++ drop (length z) out) these
+  pub listed-are : (out out′ : List ℕ) (n : ℕ) → Lists marks out out′ n → out′ ≡ answers (modeOf kind) q (rulesIn ws) ++ drop (length (answers (modeOf kind) q (rulesIn ws))) out
+  listed-are out out′ n l = l .is ∙ ap₂ (λ (z : List ℕ) (k : ℕ). z ++ drop k out) these (as-many out out′ n l)
+
+  pub never-many : Passing ws → length (numbers (marked marks) 4096) ≤ 512
+  never-many p = omega (arith, ap length these, never-more (modeOf kind) q (rulesIn ws), limited ws p .few)
 
 -- ---- showing
 

@@ -36,6 +36,13 @@ module _ (r : Record) (x : ℕ) (first : x ≡ 4096 * r .refusal + length (r .ce
           (ap (λ (z : List ℕ). ys ++ z) end ∙ append-nil ys ∙ g ∙ ap (λ (z : List ℕ). r .cells ++ drop (length (r .cells)) z) mid
           ∙ ap (λ (j : ℕ). r .cells ++ drop j (o ∷ os)) (let h : suc (length (r .cells)) ≡ n = omega arith in h))
 
+-- the cells behind the first put, and then the first
+module _ (r : Record) (x : ℕ) (first : x ≡ 4096 * r .refusal + length (r .cells)) where
+  pub cells-then : (out ys : List ℕ) (k n : ℕ) → length (r .cells) < length out → k ≡ length out - 1 → n ≡ length (r .cells) + 1
+      → ys ≡ r .cells ++ drop (length (r .cells)) (midOf 1 k out) → Writes r out (set (putMid 1 k out ys) 0 x) n
+  cells-then [] ys k n l e f g = absurd (omega arith)
+  cells-then (o ∷ os) ys k n l e f g = with-cells r x first (o ∷ os) ys k n l e f g
+
 pub bare-written : (refusal x : ℕ) (out : List ℕ) → 0 < length out → x ≡ 4096 * refusal → Writes (bare refusal) out (set out 0 x) 1
 bare-written refusal x [] h e = absurd (omega arith)
 bare-written refusal x (o ∷ os) h e = record { fits = λ _. (refl, ap (λ (a : ℕ). a ∷ os) (let z : x ≡ 4096 * refusal + 0 = omega arith in z)); short = λ l. absurd (omega arith) }

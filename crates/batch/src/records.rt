@@ -4,6 +4,9 @@ ghost use mathlib.Core.Path.{_≡_};
 ghost use mathlib.Core.List.{_++_};
 ghost use Prim.Native.Nat.{_+_, _<_, _≤_};
 ghost use lib.ListN.{length, take, drop};
+ghost use lib.Dec.{ltb};
+ghost use Rattle.tree.specs.Tally.{marked};
+ghost use Rattle.questions.specs.Asking.{numbers};
 ghost use Rattle.term.specs.Machine.{fillsQuestion, fillsRule};
 ghost use Rattle.book.specs.Rules.{addRefusal};
 ghost use Rattle.book.specs.Memory.{Passing, rulesIn};
@@ -12,6 +15,7 @@ ghost use Rattle.batch.specs.Records.{bare};
 ghost use Rattle.batch.specs.Commands.{adds, removes, asks, shows, counts, modeOf};
 ghost use Rattle.batch.specs.Promises.{Writes, Does};
 use book::Added;
+use book::Book;
 use book::Removed;
 
 fn add_refusal(answer: Added) -> u64
@@ -107,7 +111,20 @@ pub fn remove(book: &mut [u64], number: u16, out: &mut [u16]) -> usize
     put_bare(remove_refusal(answer), out)
 }
 
-// Lists the rules that answer a question. How many they are is known before anything is written.
+// Is there room for the list of these marks, and a cell before it? A list never has more numbers than a book has rules, so it is
+// only counted where there may be no room for so many.
+fn has_room(marks: &[u64], room: usize) -> bool
+    requires { ⌜ length (now marks) ≡ 64 ⌝ }
+    requires { ⌜ length (numbers (marked (now marks)) 4096) ≤ 512 ⌝ }
+    ensures { λ r. ⌜ r ≡ ltb (length (numbers (marked (now (marks .entry))) 4096)) room ⌝ }
+{
+    if Book::RULES < room {
+        return true;
+    }
+    bits::count(marks) < room
+}
+
+// Lists the rules that answer a question. Whether they have room is known before anything is written.
 pub fn ask(book: &[u64], kind: u16, question: &[u16], out: &mut [u16]) -> usize
     requires { ⌜ Passing (now book) ⌝ }
     requires { ⌜ (2 ≤ kind) × (kind ≤ 5) ⌝ }
@@ -115,12 +132,11 @@ pub fn ask(book: &[u64], kind: u16, question: &[u16], out: &mut [u16]) -> usize
     ensures { λ n. ⌜ Writes (asks (rulesIn (now (book .entry))) kind (now (question .entry)) .answer) (now (out .entry)) (now (out .exit)) n ⌝ }
 {
     let marks = questions::ask(book, fills_question(kind), fills_rule(kind), question);
-    let count = bits::count(&marks);
-    if out.len() <= count {
+    if !has_room(&marks, out.len()) {
         return 0;
     }
+    let count = questions::list(&marks, &mut out[1..]);
     out[0] = count as u16;
-    questions::list(&marks, &mut out[1..]);
     count + 1
 }
 

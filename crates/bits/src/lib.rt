@@ -6,13 +6,67 @@ ghost use mathlib.Core.Path.{_≡_};
 ghost use Prim.Native.Nat.{_+_, _*_, _≤_, _<_};
 ghost use lib.Dec.{eqb};
 ghost use lib.ListN.{length, getD, set};
-ghost use Rattle.bits.specs.Packed.{parts, fields, bits, sum, First};
+ghost use mathlib.Core.Bool.{true, false};
+ghost use Rattle.bits.specs.Packed.{parts, fields, bits, sum, Skipped, First, Eight, AllZero, NextWord, Zeros, restOf, Spotted};
 
 pub fn field(words: &[u64], i: usize) -> u16
     requires { ⌜ i < 4 * length (now words) ⌝ }
     ensures { λ r. ⌜ r ≡ getD (fields (now (words .entry))) i 0 ⌝ }
 {
     ((words[i / 4] >> ((3 - i % 4) * 16)) % 65536) as u16
+}
+
+// Are the last seven of eight words zero? Test by test and not in a loop, as most terms leave them empty.
+fn seven_zeros(words: &[u64]) -> bool
+    requires { ⌜ length (now words) ≡ 8 ⌝ }
+    ensures yes { λ r. ⌜ (r ≡ true → Zeros (fields (now (words .entry))) 4) ⌝ }
+    ensures no { λ r. ⌜ (r ≡ false → Zeros (fields (now (words .entry))) 4 → ⊥) ⌝ }
+{
+    if words[1] != 0 {
+        return false;
+    }
+    if words[2] != 0 {
+        return false;
+    }
+    if words[3] != 0 {
+        return false;
+    }
+    if words[4] != 0 {
+        return false;
+    }
+    if words[5] != 0 {
+        return false;
+    }
+    if words[6] != 0 {
+        return false;
+    }
+    words[7] == 0
+}
+
+// Are all fields of eight words from `from` on zero? Of the word of `from` the shift drops the fields before it; a word
+// behind it is zero as a whole.
+pub fn zeros_from(words: &[u64], from: usize) -> bool
+    requires { ⌜ length (now words) ≡ 8 ⌝ }
+    ensures yes { λ r. ⌜ (r ≡ true → Zeros (fields (now (words .entry))) from) ⌝ }
+    ensures no { λ r. ⌜ (r ≡ false → Zeros (fields (now (words .entry))) from → ⊥) ⌝ }
+{
+    if 8 <= from / 4 {
+        return true;
+    }
+    if words[from / 4] << (from % 4 * 16) != 0 {
+        return false;
+    }
+    if from < 4 {
+        return seven_zeros(words);
+    }
+    let mut i = from / 4 + 1;
+    while i < 8 {
+        if words[i] != 0 {
+            return false;
+        }
+        i += 1;
+    }
+    true
 }
 
 pub fn put_field(words: &mut [u64], i: usize, x: u16)
@@ -58,6 +112,22 @@ pub fn count(map: &[u64]) -> usize
     n
 }
 
+// Are two maps of one length the same?
+pub fn same(a: &[u64], b: &[u64]) -> bool
+    requires { ⌜ length (now a) ≡ length (now b) ⌝ }
+    ensures yes { λ r. ⌜ (r ≡ true → now (a .entry) ≡ now (b .entry)) ⌝ }
+    ensures no { λ r. ⌜ (r ≡ false → bits (now (a .entry)) ≡ bits (now (b .entry)) → ⊥) ⌝ }
+{
+    let mut i: usize = 0;
+    while i < a.len() {
+        if a[i] != b[i] {
+            return false;
+        }
+        i += 1;
+    }
+    true
+}
+
 // The first set bit of one word at or after bit `from`, or 64.
 fn first_one(w: u64, from: usize) -> usize
     requires { ⌜ from < 64 ⌝ }
@@ -75,7 +145,17 @@ pub fn lowest_free(map: &[u64]) -> usize
     requires { ⌜ length (now map) ≤ 65536 ⌝ }
     ensures { λ r. ⌜ First 0 (bits (now (map .entry))) 0 r ⌝ }
 {
-    let mut i: usize = 0;
+    lowest_free_from(map, 0)
+}
+
+// The same where all words before `from` are known to be full: who takes one free bit after the other passes each word once.
+pub fn lowest_free_from(map: &[u64], from: usize) -> usize
+    requires { ⌜ length (now map) ≤ 65536 ⌝ }
+    requires { ⌜ from ≤ length (now map) ⌝ }
+    requires { ⌜ Skipped 0 (bits (now map)) 0 (from * 64) ⌝ }
+    ensures { λ r. ⌜ First 0 (bits (now (map .entry))) 0 r ⌝ }
+{
+    let mut i = from;
     while i < map.len() {
         let r = first_one(!map[i], 0);
         if r < 64 {
@@ -86,6 +166,51 @@ pub fn lowest_free(map: &[u64]) -> usize
     i * 64
 }
 
+// Eight words as one, which is zero exactly if they all are.
+fn eight(map: &[u64], i: usize) -> u64
+    requires { ⌜ i + 8 ≤ length (now map) ⌝ }
+    ensures { λ r. ⌜ Eight (now (map .entry)) i r ⌝ }
+{
+    map[i]
+        | map[i + 1]
+        | map[i + 2]
+        | map[i + 3]
+        | map[i + 4]
+        | map[i + 5]
+        | map[i + 6]
+        | map[i + 7]
+}
+
+// A place up to which all words from `from` on are zero: maps are mostly empty, so they are passed by eights.
+fn past_zeros(map: &[u64], from: usize) -> usize
+    requires { ⌜ from ≤ length (now map) ⌝ }
+    ensures { λ r. ⌜ AllZero (now (map .entry)) from r ⌝ }
+{
+    let mut i = from;
+    while 8 <= map.len() - i {
+        if eight(map, i) != 0 {
+            return i;
+        }
+        i += 8;
+    }
+    i
+}
+
+// The first word at or behind `from` that is not zero, or the number of words.
+fn next_word(map: &[u64], from: usize) -> usize
+    requires { ⌜ from ≤ length (now map) ⌝ }
+    ensures { λ r. ⌜ NextWord (now (map .entry)) from r ⌝ }
+{
+    let mut i = past_zeros(map, from);
+    while i < map.len() {
+        if map[i] != 0 {
+            return i;
+        }
+        i += 1;
+    }
+    i
+}
+
 // The first set bit at or after `from`, or the number of bits. Starting each call behind the last answer,
 // a walk over all set bits costs the words and the set bits.
 pub fn next_marked(map: &[u64], from: usize) -> usize
@@ -93,13 +218,55 @@ pub fn next_marked(map: &[u64], from: usize) -> usize
     requires { ⌜ from ≤ 64 * length (now map) ⌝ }
     ensures { λ r. ⌜ First 1 (bits (now (map .entry))) from r ⌝ }
 {
-    let mut n = from;
-    while n < map.len() * 64 {
-        let r = first_one(map[n / 64], n % 64);
-        if r < 64 {
-            return n / 64 * 64 + r;
-        }
-        n = n / 64 * 64 + 64;
+    if map.len() * 64 <= from {
+        return from;
     }
-    n
+    let q = from / 64;
+    let r = first_one(map[q], from % 64);
+    if r < 64 {
+        return q * 64 + r;
+    }
+    let i = next_word(map, q + 1);
+    if i < map.len() {
+        return i * 64 + u64::leading_zeros(map[i]) as usize;
+    }
+    i * 64
+}
+
+// A set bit, and the rest of its word, shifted so that the bit comes first. Where there is no set bit, `at` is the number of bits.
+pub struct Spot {
+    pub at: usize,
+    pub rest: u64,
+}
+
+// The first set bit at or after `from`.
+pub fn first_spot(map: &[u64], from: usize) -> Spot
+    requires { ⌜ length (now map) ≤ 65536 ⌝ }
+    requires { ⌜ from ≤ 64 * length (now map) ⌝ }
+    ensures { λ r. ⌜ Spotted (now (map .entry)) from (r .at) (r .rest) ⌝ }
+{
+    let at = next_marked(map, from);
+    if map.len() * 64 <= at {
+        return Spot { at, rest: 0 };
+    }
+    let rest = map[at / 64] << (at % 64);
+    Spot { at, rest }
+}
+
+// The next set bit behind a spot: no step of a walk waits for memory as long as its word has one more.
+pub fn next_spot(map: &[u64], at: usize, rest: u64) -> Spot
+    requires { ⌜ length (now map) ≤ 65536 ⌝ }
+    requires { ⌜ at < 64 * length (now map) ⌝ }
+    requires { ⌜ rest ≡ restOf (now map) at ⌝ }
+    ensures { λ r. ⌜ Spotted (now (map .entry)) (at + 1) (r .at) (r .rest) ⌝ }
+{
+    let left = rest << 1;
+    if left == 0 {
+        return first_spot(map, at / 64 * 64 + 64);
+    }
+    let z = u64::leading_zeros(left) as usize;
+    Spot {
+        at: at + 1 + z,
+        rest: left << z,
+    }
 }

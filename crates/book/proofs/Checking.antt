@@ -1,24 +1,30 @@
 -- The check of one record: each test that fails is a condition that does not hold, and where all pass the way up decides.
 use mathlib.Core.Path.{_≡_, refl, sym, ap, ap₂, _∙_, subst}
 use mathlib.Core.Logic.{_⊎_, inl, inr, _↔_}
-use mathlib.Core.List.{List, [], _∷_, _++_, reverse}
+use mathlib.Core.List.{List, [], _∷_, _++_, reverse, reverse-append}
 use mathlib.Core.Bool.{Bool, true, false}
 use Prim.Native.Nat.{ℕ, zero, suc, _+_, _-_, _*_, _≤_, _<_}
 use native.Mathlib.Omega.{arith}
-use lib.ListN.{length, getD, take, drop}
-use Rattle.bits.specs.Packed.{fields}
+use native.Mathlib.Decide.{ℕ-discrete}
+use borrow.Author.Tests.{eqb-true, eqb-false, lt-ltb}
+use lib.Dec.{eqb}
+use lib.ListN.{length, getD, set, take, drop}
+use Rattle.bits.specs.Packed.{fields, bits, Zeros}
 use Rattle.term.specs.Counting.{true≢false}
 use Rattle.term.specs.Reading.{readTerm}
 use Rattle.term.specs.declared.reading.Fault.{Fault}
 use Rattle.term.specs.declared.reading.Reading.{Reading}
 use Rattle.term.specs.declared.reading.Reading.the-variants.{Whole, Refused}
 use Rattle.term.specs.Whole.{whole-term}
-use Rattle.tree.specs.Shape.{Up, On}
-use Rattle.tree.specs.Words.{cellOf}
-use Rattle.tree.specs.Promises.{Marked, Climbed}
+use Rattle.tree.specs.Shape.{Shape, Up, down, On, here, above, loose}
+use Rattle.tree.specs.Basics.{up-parent}
+use Rattle.tree.specs.Tally.{marked}
+use Rattle.tree.specs.Tallies.{mark-here, mark-other}
+use Rattle.tree.specs.Words.{cellOf, parentOf}
+use Rattle.tree.specs.Promises.{Marked, Climbed, formed}
 use Rattle.book.specs.Memory.{View, view, number, term, form, formOf, leaf, Recorded}
-use Rattle.book.specs.Promises.{IsStored, Whole-then-zeros, RecordChecked}
-use Rattle.book.proofs.Looking.{rule-number}
+use Rattle.book.specs.Promises.{IsWhole, WayAt, RecordChecked}
+use Rattle.book.proofs.Looking.{rule-number, rule-parent}
 
 whole-inj : {a b : ℕ} → Whole a ≡ Whole b → a ≡ b
 whole-inj e = cc
@@ -26,20 +32,18 @@ whole-inj e = cc
 refused-whole : {fault : Fault} {a b : ℕ} → Refused fault a ≡ Whole b → ⊥
 refused-whole e = let z : _≡_ {A = ℕ} 0 1 = cc in omega arith
 
+-- the first step of a way
+on-step : {m : Shape} {n k : ℕ} → On m n (suc k) → (n ≡ k) ⊎ On m n (m .parent k)
+on-step here = inl refl
+on-step (above o) = inr o
+
 -- the cells of a record
 module _ (cells : List ℕ) (size : ℕ) where
-  pub other-size : (n : ℕ) → Whole n ≡ readTerm cells → ¬ (n ≡ size) → IsStored cells size false
-  other-size n e d = record { yes = λ q. absurd (true≢false q refl); no = λ q w. d (whole-inj (e ∙ w .whole)) }
+  pub other-size : (n : ℕ) → Whole n ≡ readTerm cells → IsWhole cells size (eqb n size)
+  other-size n e = record { yes = λ q. sym e ∙ ap Whole (eqb-true n size q); no = λ q w. eqb-false n size q (whole-inj (e ∙ w)) }
 
-  pub no-term : (fault : Fault) (p : ℕ) → Refused fault p ≡ readTerm cells → IsStored cells size false
-  no-term fault p e = record { yes = λ q. absurd (true≢false q refl); no = λ q w. refused-whole (e ∙ w .whole) }
-
-  pub whole-size : (n : ℕ) → Whole n ≡ readTerm cells → n ≡ size → (b : Bool)
-      → (b ≡ true → (i : ℕ) → n ≤ i → getD cells i 0 ≡ 0) × (b ≡ false → ((i : ℕ) → n ≤ i → getD cells i 0 ≡ 0) → ⊥) → IsStored cells size b
-  whole-size n e d b z = record {
-    yes = λ q. record { whole = sym e ∙ ap Whole d; clean = λ i h. z .0 q i (subst (λ (k : ℕ). k ≤ i) (sym d) h) };
-    no = λ q w. z .1 q (λ i h. w .clean i (subst (λ (k : ℕ). k ≤ i) d h));
-  }
+  pub no-term : (fault : Fault) (p : ℕ) → Refused fault p ≡ readTerm cells → IsWhole cells size false
+  no-term fault p e = record { yes = λ q. absurd (true≢false q refl); no = λ q w. refused-whole (e ∙ w) }
 
 -- the record at the place r
 module _ (ws map : List ℕ) (r : ℕ) (hr : r < 512) where
@@ -59,35 +63,69 @@ module _ (ws map : List ℕ) (r : ℕ) (hr : r < 512) where
     pub not-back : (map′ : List ℕ) (p : ℕ) → p ≡ getD (fields (take 1024 (drop 4681 ws))) k 0 → ¬ (p ≡ r) → RecordChecked ws map map′ r false
     not-back map′ p e d = fails map′ (λ c. d (e ∙ ap (view ws .place) is-number ∙ c .found))
 
-    -- the cells and the size as they are read
-    module _ (cells : List ℕ) (size : ℕ) (ec : cells ≡ view ws .cells r) (es : size ≡ view ws .size r) where
-      stored-is : (c : Recorded (view ws) r) → Whole-then-zeros cells size
-      stored-is c = record {
-        whole = ap readTerm ec ∙ c .whole ∙ ap Whole (sym es);
-        clean = λ i h. ap (λ (l : List ℕ). getD l i 0) ec ∙ c .clean i (subst (λ (n : ℕ). n ≤ i) es h);
-      }
+    -- the size as it is read, and the words of the cells
+    module _ (size : ℕ) (es : size ≡ view ws .size r) where
+      pub too-long : (map′ : List ℕ) → 32 < size → RecordChecked ws map map′ r false
+      too-long map′ h = fails map′ (λ c. let t = whole-term (view ws .cells r) (view ws .size r) (c .whole) .short in omega arith)
 
-      pub not-stored : (map′ : List ℕ) (b : Bool) → IsStored cells size b → b ≡ false → RecordChecked ws map map′ r false
-      not-stored map′ b s e = fails map′ (λ c. s .no e (stored-is c))
+      module _ (fs : List ℕ) (ef : fs ≡ view ws .cells r) where
+        pub not-clean : (map′ : List ℕ) (b : Bool) → (b ≡ false → Zeros fs size → ⊥) → b ≡ false → RecordChecked ws map map′ r false
+        not-clean map′ b s e = fails map′ (λ c. s e (λ i h. ap (λ (l : List ℕ). getD l i 0) ef ∙ c .clean i (subst (λ (n : ℕ). n ≤ i) es h)))
 
-      pub size-low : (b : Bool) → IsStored cells size b → b ≡ true → (size ≤ 32) × (size ≤ length cells)
-      size-low b s e = let t = whole-term cells size (s .yes e .whole) in (t .short, t .inside)
+        module _ (cells : List ℕ) (ec : cells ≡ fs) where
+          pub not-whole : (map′ : List ℕ) (b : Bool) → IsWhole cells size b → b ≡ false → RecordChecked ws map map′ r false
+          not-whole map′ b s e = fails map′ (λ c. s .no e (ap readTerm (ec ∙ ef) ∙ c .whole ∙ ap Whole (sym es)))
 
-      module _ (low : k < 4096) (p : ℕ) (ep : p ≡ getD (fields (take 1024 (drop 4681 ws))) k 0) (back : p ≡ r) (b : Bool) (s : IsStored cells size b) (e : b ≡ true) where
-        recorded : Recorded (view ws) r
-        recorded = record {
-          low = subst (λ (n : ℕ). n < 4096) is-number low;
-          found = ap (view ws .place) (sym is-number) ∙ sym ep ∙ back;
-          whole = ap readTerm (sym ec) ∙ s .yes e .whole ∙ ap Whole es;
-          clean = λ i h. ap (λ (l : List ℕ). getD l i 0) (sym ec) ∙ s .yes e .clean i (subst (λ (n : ℕ). n ≤ i) (sym es) h);
-        }
+          module _ (low : k < 4096) (p : ℕ) (ep : p ≡ getD (fields (take 1024 (drop 4681 ws))) k 0) (back : p ≡ r) (z : Zeros fs size) (b : Bool) (s : IsWhole cells size b) (e : b ≡ true) where
+            recorded : Recorded (view ws) r
+            recorded = record {
+              low = subst (λ (n : ℕ). n < 4096) is-number low;
+              found = ap (view ws .place) (sym is-number) ∙ sym ep ∙ back;
+              whole = ap readTerm (sym (ec ∙ ef)) ∙ s .yes e ∙ ap Whole es;
+              clean = λ i h. ap (λ (l : List ℕ). getD l i 0) (sym ef) ∙ z i (subst (λ (n : ℕ). n ≤ i) (sym es) h);
+            }
 
-        pub climbed : (map′ row : List ℕ) (x : Bool) → row ≡ formOf (take size cells) ++ (k ∷ []) → Climbed (view ws .tree) map map′ (4096 + r) row x → RecordChecked ws map map′ r x
-        climbed map′ row x er c = record {
-          yes = λ q. (recorded, subst (λ (l : List ℕ). Up (view ws .tree) (suc (4096 + r)) (reverse l)) same (c .yes q));
-          no = λ q w. c .no q (subst (λ (l : List ℕ). Up (view ws .tree) (suc (4096 + r)) (reverse l)) (sym same) (w .1));
-          marks = c .marks;
-        }
-          where
-            same : row ≡ form (view ws) r ++ (number (view ws) r ∷ [])
-            same = er ∙ ap₂ (λ (l : List ℕ) (n : ℕ). formOf l ++ (n ∷ [])) (ap₂ (λ (n : ℕ) (l : List ℕ). take n l) es ec) is-number
+            same : formed (take size cells) ≡ form (view ws) r
+            same = ap₂ (λ (n : ℕ) (l : List ℕ). formOf (take n l)) es (ec ∙ ef)
+
+            row : reverse (form (view ws) r ++ (number (view ws) r ∷ [])) ≡ number (view ws) r ∷ reverse (form (view ws) r)
+            row = reverse-append (form (view ws) r) (number (view ws) r ∷ [])
+
+            -- the rule's node is marked, and from its parent on the way is climbed
+            module _ (map₁ : List ℕ) (long : length map ≡ 72) (em : bits map₁ ≡ set (bits map) (4096 + r) 1) (u : ℕ) (eu : u ≡ parentOf (getD ws (4169 + r) 0)) where
+              parent-is : u ≡ view ws .tree .parent (4096 + r)
+              parent-is = eu ∙ rule-parent ws r hr
+
+              up : Up (loose (view ws .tree)) u (reverse (formed (take size cells))) → WayAt ws r
+              up x = subst (λ (l : List ℕ). Up (loose (view ws .tree)) (suc (4096 + r)) l) (sym row)
+                  (down (lt-ltb (4096 + r) 4608 (omega arith)) refl (subst (λ (l : ℕ). Up (loose (view ws .tree)) l (reverse (form (view ws) r))) parent-is
+                  (subst (λ (l : List ℕ). Up (loose (view ws .tree)) u (reverse l)) same x)))
+
+              of-up : WayAt ws r → Up (loose (view ws .tree)) u (reverse (formed (take size cells)))
+              of-up x = subst (λ (l : List ℕ). Up (loose (view ws .tree)) u (reverse l)) (sym same)
+                  (subst (λ (l : ℕ). Up (loose (view ws .tree)) l (reverse (form (view ws) r))) (sym parent-is)
+                  (up-parent (subst (λ (l : List ℕ). Up (loose (view ws .tree)) (suc (4096 + r)) l) row x)))
+
+              in-map : 4096 + r < 64 * length map
+              in-map = omega arith
+
+              to : (n : ℕ) → Dec (n ≡ 4096 + r) → Marked map₁ n ⊎ On (view ws .tree) n u → Marked map n ⊎ On (view ws .tree) n (suc (4096 + r))
+              to n (yes q) x = inr (subst (λ (l : ℕ). On (view ws .tree) l (suc (4096 + r))) (sym q) here)
+              to n (no q) (inl a) = inl (sym (mark-other map map₁ (4096 + r) 1 in-map em n q) ∙ a)
+              to n (no q) (inr o) = inr (above (subst (λ (l : ℕ). On (view ws .tree) n l) parent-is o))
+
+              of : (n : ℕ) → Dec (n ≡ 4096 + r) → Marked map n ⊎ On (view ws .tree) n (suc (4096 + r)) → Marked map₁ n ⊎ On (view ws .tree) n u
+              of n (yes q) x = inl (ap (marked map₁) q ∙ mark-here map map₁ (4096 + r) 1 in-map em)
+              of n (no q) (inl a) = inl (mark-other map map₁ (4096 + r) 1 in-map em n q ∙ a)
+              of n (no q) (inr o) = go (on-step o)
+                where
+                  go : (n ≡ 4096 + r) ⊎ On (view ws .tree) n (view ws .tree .parent (4096 + r)) → Marked map₁ n ⊎ On (view ws .tree) n u
+                  go (inl d) = absurd (q d)
+                  go (inr d) = inr (subst (λ (l : ℕ). On (view ws .tree) n l) (sym parent-is) d)
+
+              pub climbed : (map′ : List ℕ) (x : Bool) → Climbed (view ws .tree) map₁ map′ u (formed (take size cells)) x → RecordChecked ws map map′ r x
+              climbed map′ x c = record {
+                yes = λ q. (recorded, up (c .yes q));
+                no = λ q w. c .no q (of-up (w .1));
+                marks = λ q n. ((λ a. to n (ℕ-discrete n (4096 + r)) (c .marks q n .0 a)), λ a. c .marks q n .1 (of n (ℕ-discrete n (4096 + r)) a));
+              }

@@ -1,4 +1,4 @@
--- The check decides passing: the records below r are right and their ways are marked, and in the end the marks are counted.
+-- The check decides passing: the records below r are right and their ways are marked, and in the end the marks are compared with the maps.
 use mathlib.Core.Path.{_≡_, refl, sym, ap, _∙_, subst}
 use mathlib.Core.Logic.{_⊎_, inl, inr, _↔_}
 use mathlib.Core.List.{List, [], _∷_, _++_, map, reverse, List·Memᴰ}
@@ -9,24 +9,20 @@ use native.Mathlib.Decide.{decLt, ℕ-discrete}
 use lib.Dec.{eqb}
 use lib.ListN.{length, getD, take, drop, length-take, length-drop, replicate, length-replicate}
 use borrow.Author.Tests.{eqb-true, eqb-false, eq-eqb, ne-eqb}
-use Rattle.bits.specs.Packed.{bits, sum, First}
+use Rattle.bits.specs.Packed.{bits, First}
 use Rattle.bits.specs.Laws.{length-bits}
 use Rattle.term.specs.Counting.{true≢false}
-use Rattle.tree.specs.Shape.{Shape, Place, Used, Valid, Goes, Up, On, End, Covered, Passes}
-use Rattle.tree.specs.Tally.{tally, marked}
-use Rattle.tree.specs.Tallies.{map-tally, no-mark}
+use Rattle.tree.specs.Shape.{Shape, Place, Used, Valid, Goes, Up, On, End, Covered, Passes, loose}
+use Rattle.tree.specs.Tally.{marked}
+use Rattle.tree.specs.Tallies.{same-bits, no-mark}
 use Rattle.tree.specs.Promises.{Marked, Targeted}
-use Rattle.tree.specs.Check.{Climbs, decides, targets-refuse}
-use Rattle.tree.specs.Limits.{used-low, all-held}
+use Rattle.tree.specs.Check.{Climbs, decides, loosen, targets-refuse}
+use Rattle.tree.specs.Limits.{used-low}
 use Rattle.tree.specs.Leaves.{Leaf, endOf, ends}
 use Rattle.book.specs.Memory.{View, view, taken, number, form, leaf, leaves, Recorded, Right, Passing}
 use Rattle.book.specs.Change.{of-ends, to-ends}
-use Rattle.book.specs.Promises.{Checks, RecordChecked}
+use Rattle.book.specs.Promises.{Checks, WayAt, RecordChecked}
 use Rattle.book.proofs.Looking.{inside, rule-taken, tree-long, nodes-low}
-
--- The way up from the rule at a place.
-abbrev pub WayAt : List ℕ → ℕ → Type 0
-WayAt ws r = Up (view ws .tree) (suc (4096 + r)) (reverse (form (view ws) r ++ (number (view ws) r ∷ [])))
 
 -- What holds when the records below r have been checked.
 pub record Checked (ws ways : List ℕ) (r : ℕ) : Type 0 where
@@ -51,6 +47,14 @@ next-taken ws from r size f = record {
   where
     long : length (bits (take 8 (drop 64 ws))) ≡ 512
     long = omega (arith, length-bits (take 8 (drop 64 ws)), length-take 8 (drop 64 ws), length-drop 64 ws)
+
+-- the rules' map has 8 words
+pub rules-long : (ws : List ℕ) → length ws ≡ 10313 → length (take 8 (drop 64 ws)) ≡ 8
+rules-long ws size = omega (arith, length-take 8 (drop 64 ws), length-drop 64 ws)
+
+-- the maps have 72 words
+pub map-long : (ws : List ℕ) → length ws ≡ 10313 → length (take 72 ws) ≡ 72
+map-long ws size = omega (arith, length-take 72 ws)
 
 -- no mark in a map of zeros
 pub clear-map : (n : ℕ) → ¬ (Marked (replicate 72 0) n)
@@ -106,13 +110,13 @@ wrong-length ws n = record { yes = λ q. absurd (true≢false q refl); no = λ q
 refuse : (ws : List ℕ) → ¬ (Passing ws) → Checks ws false
 refuse ws n = record { yes = λ q. absurd (true≢false q refl); no = λ q. n }
 
-pub wrong-links : (ws aims : List ℕ) (b : Bool) → Targeted (view ws .tree) aims b → b ≡ false → Checks ws false
-wrong-links ws aims b t e = refuse ws (λ p. targets-refuse (subst (λ (x : Bool). Targeted (view ws .tree) aims x) e t) (p .right .tree))
+pub wrong-links : (ws aims : List ℕ) → length ws ≡ 10313 → (b : Bool) → Targeted (view ws .tree) aims b → b ≡ false → Checks ws false
+wrong-links ws aims size b t e = refuse ws (λ p. targets-refuse (nodes-low ws size) (subst (λ (x : Bool). Targeted (view ws .tree) aims x) e t) (p .right .tree))
 
 pub wrong-record : (ws ways ways′ : List ℕ) (r : ℕ) → length ws ≡ 10313 → taken (view ws) r ≡ true → (b : Bool) → RecordChecked ws ways ways′ r b → b ≡ false → Checks ws false
-wrong-record ws ways ways′ r size u b k e = refuse ws (λ p. k .no e (p .right .records r u, p .right .tree .ways (endOf (leaf (view ws) r)) (to-ends (view ws) (taken (view ws)) r u (let l = nodes-low ws size (4096 + r) u in omega arith))))
+wrong-record ws ways ways′ r size u b k e = refuse ws (λ p. k .no e (p .right .records r u, loosen (nodes-low ws size) (p .right .tree .ways (endOf (leaf (view ws) r)) (to-ends (view ws) (taken (view ws)) r u (let l = nodes-low ws size (4096 + r) u in omega arith)))))
 
--- ---- the counts decide
+-- ---- the marks decide
 
 module _ (ws aims ways : List ℕ) (r : ℕ) (size : length ws ≡ 10313) (b : Bool) (t : Targeted (view ws .tree) aims b) (eb : b ≡ true) (la : length aims ≡ 72) (c : Checked ws ways r) (all : 512 ≤ r) where
   targeted : Targeted (view ws .tree) aims true
@@ -126,34 +130,37 @@ module _ (ws aims ways : List ℕ) (r : ℕ) (size : length ws ≡ 10313) (b : B
 
   climbs : Climbs (view ws .tree) (ends (leaves (view ws))) ways
   climbs = record {
-    ways = λ x i. let q = of-ends (view ws) (taken (view ws)) i in subst (λ (y : End). Up (view ws .tree) (suc (y .last)) (reverse (y .form))) (q .3) (c .records (q .0) (place-low (q .0) (q .1)) (q .1) .1);
+    ways = λ x i. let q = of-ends (view ws) (taken (view ws)) i in subst (λ (y : End). Up (loose (view ws .tree)) (suc (y .last)) (reverse (y .form))) (q .3) (c .records (q .0) (place-low (q .0) (q .1)) (q .1) .1);
     marks = λ n. (
       (λ m. let q = c .marks n .0 m in record { end = endOf (leaf (view ws) (q .0)); among = to-ends (view ws) (taken (view ws)) (q .0) (q .2) (let l = low (4096 + q .0) (q .2) in omega arith); on = q .3 }),
       (λ o. let q = of-ends (view ws) (taken (view ws)) (o .among) in c .marks n .1 (q .0, place-low (q .0) (q .1), q .1, subst (λ (y : End). On (view ws .tree) n (suc (y .last))) (sym (q .3)) (o .on))),
     );
   }
 
-  full : (m : List ℕ) → length m ≡ 72 → sum (bits m) ≡ tally (marked m) 4608
-  full m l = map-tally m ∙ ap (tally (marked m)) (omega arith)
+  both : Passes (view ws .tree) (ends (leaves (view ws))) ↔ (((n : ℕ) → marked aims n ≡ view ws .tree .used n) × ((n : ℕ) → marked ways n ≡ view ws .tree .used n))
+  both = decides (view ws .tree) (ends (leaves (view ws))) aims ways targeted climbs
 
-  held-is : (h : ℕ) → h ≡ sum (bits (take 72 ws)) → h ≡ tally (view ws .tree .used) 4608
-  held-is h e = e ∙ ap (λ (m : List ℕ). sum (bits m)) (sym (inside ws 0 72 (omega arith))) ∙ all-held (take 4681 ws) (tree-long ws size)
+  -- a map is that of the used nodes exactly where it has its bits
+  held : take 72 (take 4681 ws) ≡ take 72 ws
+  held = inside ws 0 72 (omega arith)
 
-  both : Passes (view ws .tree) (ends (leaves (view ws))) ↔ ((tally (marked aims) 4608 ≡ tally (view ws .tree .used) 4608) × (tally (marked ways) 4608 ≡ tally (view ws .tree .used) 4608))
-  both = decides (view ws .tree) (ends (leaves (view ws))) low aims ways targeted climbs
+  as-held : (m : List ℕ) → m ≡ take 72 ws → (n : ℕ) → marked m n ≡ view ws .tree .used n
+  as-held m e n = ap (λ (l : List ℕ). marked l n) (e ∙ sym held)
 
-  module _ (h a : ℕ) (eh : h ≡ sum (bits (take 72 ws))) (ea : a ≡ sum (bits aims)) where
-    pub aims-wrong : ¬ (a ≡ h) → Checks ws false
-    aims-wrong n = refuse ws (λ p. n (ea ∙ full aims la ∙ both .0 (p .right .tree) .0 ∙ sym (held-is h eh)))
+  of-held : (m : List ℕ) → length m ≡ 72 → ((n : ℕ) → marked m n ≡ view ws .tree .used n) → bits m ≡ bits (take 72 ws)
+  of-held m l f = same-bits m (take 72 ws) (omega (arith, length-take 72 ws)) (λ n. f n ∙ ap (λ (k : List ℕ). marked k n) held)
 
-    pub counted : (w : ℕ) → w ≡ sum (bits ways) → a ≡ h → Checks ws (eqb w h)
-    counted w ew e = record {
-      yes = λ q. record {
-        size = size;
-        right = record {
-          records = λ j u. c .records j (place-low j u) u .0;
-          tree = both .1 (sym (full aims la) ∙ sym ea ∙ e ∙ held-is h eh, sym (full ways (c .long)) ∙ sym ew ∙ eqb-true w h q ∙ held-is h eh);
-        };
+  pub aims-wrong : (x : Bool) → (x ≡ false → bits aims ≡ bits (take 72 ws) → ⊥) → x ≡ false → Checks ws false
+  aims-wrong x n e = refuse ws (λ p. n e (of-held aims la (both .0 (p .right .tree) .0)))
+
+  pub compared : (x : Bool) → (x ≡ true → aims ≡ take 72 ws) → x ≡ true → (y : Bool) → (y ≡ true → ways ≡ take 72 ws) × (y ≡ false → bits ways ≡ bits (take 72 ws) → ⊥) → Checks ws y
+  compared x a e y w = record {
+    yes = λ q. record {
+      size = size;
+      right = record {
+        records = λ j u. c .records j (place-low j u) u .0;
+        tree = both .1 (as-held aims (a e), as-held ways (w .0 q));
       };
-      no = λ q p. eqb-false w h q (ew ∙ full ways (c .long) ∙ both .0 (p .right .tree) .1 ∙ sym (held-is h eh));
-    }
+    };
+    no = λ q p. w .1 q (of-held ways (c .long) (both .0 (p .right .tree) .1));
+  }

@@ -7,7 +7,7 @@ use Prim.Native.Nat.{ℕ, suc, _+_, _-_, _≤_, _<_}
 use lib.ListN.{length, getD, take, replicate}
 use Rattle.term.specs.Reading.{readTerm}
 use Rattle.term.specs.declared.reading.Reading.the-variants.{Whole}
-use Rattle.tree.specs.Shape.{Shape, Up, On}
+use Rattle.tree.specs.Shape.{Shape, Up, On, loose}
 use Rattle.tree.specs.Promises.{Marked}
 use Rattle.book.specs.Rules.{Held, nothing, rule, Rules, isHeld, noRules, withRule, withoutRule, ruleCount, nodesOf, Added, Taken, judged, after}
 use Rattle.book.specs.Memory.{View, view, heldAt, leaf, Recorded, Passing, rulesIn}
@@ -96,17 +96,17 @@ pub record Stores (v v′ : View) (k r : ℕ) (t : List ℕ) : Type 0 where
   pub cells : v′ .cells r ≡ t ++ replicate (32 - length t) 0
   pub cellss : (j : ℕ) → ¬ (j ≡ r) → v′ .cells j ≡ v .cells j
 
--- The cells are one whole term of that size, and then zeros.
-pub record Whole-then-zeros (cells : List ℕ) (size : ℕ) : Type 0 where
-  pub whole : readTerm cells ≡ Whole size
-  pub clean : (i : ℕ) → size ≤ i → getD cells i 0 ≡ 0
+-- The cells begin with one whole term of that size.
+pub record IsWhole (cells : List ℕ) (size : ℕ) (r : Bool) : Type 0 where
+  pub yes : r ≡ true → readTerm cells ≡ Whole size
+  pub no : r ≡ false → ¬ (readTerm cells ≡ Whole size)
 
-pub record IsStored (cells : List ℕ) (size : ℕ) (r : Bool) : Type 0 where
-  pub yes : r ≡ true → Whole-then-zeros cells size
-  pub no : r ≡ false → ¬ (Whole-then-zeros cells size)
+-- The way up from the rule at a place, whatever nodes are used: it reads its form and its number.
+abbrev pub WayAt : List ℕ → ℕ → Type 0
+WayAt ws r = Up (loose (view ws .tree)) (suc (4096 + r)) (mathlib.Core.List.reverse (leaf (view ws) r .form ++ (leaf (view ws) r .number ∷ [])))
 
 -- One record is right, and going up from its rule reads its form and its number; then the nodes on the way are marked.
 pub record RecordChecked (ws map map′ : List ℕ) (r : ℕ) (b : Bool) : Type 0 where
-  pub yes : b ≡ true → Recorded (view ws) r × Up (view ws .tree) (suc (4096 + r)) (mathlib.Core.List.reverse (leaf (view ws) r .form ++ (leaf (view ws) r .number ∷ [])))
-  pub no : b ≡ false → ¬ (Recorded (view ws) r × Up (view ws .tree) (suc (4096 + r)) (mathlib.Core.List.reverse (leaf (view ws) r .form ++ (leaf (view ws) r .number ∷ []))))
+  pub yes : b ≡ true → Recorded (view ws) r × WayAt ws r
+  pub no : b ≡ false → ¬ (Recorded (view ws) r × WayAt ws r)
   pub marks : b ≡ true → (n : ℕ) → Marked map′ n ↔ (Marked map n ⊎ On (view ws .tree) n (suc (4096 + r)))

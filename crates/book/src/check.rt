@@ -2,21 +2,16 @@
 ghost use mathlib.Core.Path.{_≡_};
 ghost use Prim.Native.Nat.{_<_};
 ghost use lib.ListN.{length};
-ghost use Rattle.book.specs.Promises.{Checks, RecordChecked, IsStored};
+ghost use Rattle.book.specs.Promises.{Checks, RecordChecked, IsWhole};
 use term::reading;
 use term::reading::Reading;
 
-// Are the cells one whole term of this size, and then zeros?
-fn is_stored(cells: &[u16], size: u64) -> bool
-    ensures { λ r. ⌜ IsStored (now (cells .entry)) size r ⌝ }
+// Do the cells begin with one whole term of this size?
+fn is_whole(cells: &[u16], size: usize) -> bool
+    ensures { λ r. ⌜ IsWhole (now (cells .entry)) size r ⌝ }
 {
     match reading::read(cells, 0) {
-        Reading::Whole(n) => {
-            if n as u64 != size {
-                return false;
-            }
-            crate::record::zeros_from(cells, n)
-        }
+        Reading::Whole(n) => n == size,
         Reading::Refused(_, _) => false,
     }
 }
@@ -26,7 +21,8 @@ fn check_record(m: &[u64], ways: &mut [u64], r: usize) -> bool
     requires { ⌜ (length (now m) ≡ 10313) × (length (now ways) ≡ 72) × (r < 512) ⌝ }
     ensures { λ b. ⌜ RecordChecked (now (m .entry)) (now (ways .entry)) (now (ways .exit)) r b ⌝ }
 {
-    let number = tree::cell_of(m[4169 + r]) as u16;
+    let w = m[4169 + r];
+    let number = tree::cell_of(w) as u16;
     if 4096 <= number {
         return false;
     }
@@ -36,15 +32,25 @@ fn check_record(m: &[u64], ways: &mut [u64], r: usize) -> bool
     }
     let at = 5706 + 9 * r;
     let end = at + 8;
-    let cells = crate::record::load(&m[at..end]);
-    let size = m[at - 1];
-    if !is_stored(&cells, size) {
+    let length = m[at - 1];
+    if 32 < length {
         return false;
     }
-    let n = size as usize;
-    let row = crate::record::row(&cells, n, number);
-    let k = n + 1;
-    tree::climb(&m[0..4681], ways, crate::Book::NODES + r, &row[0..k])
+    let size = length as usize;
+    if !bits::zeros_from(&m[at..end], size) {
+        return false;
+    }
+    let cells = crate::record::load_term(&m[at..end], size);
+    if !is_whole(&cells, size) {
+        return false;
+    }
+    bits::mark(ways, crate::Book::NODES + r);
+    tree::climb(
+        &m[0..4681],
+        ways,
+        tree::parent_of(w) as usize,
+        &cells[0..size],
+    )
 }
 
 // Does memory of any length and with any contents pass?
@@ -59,16 +65,19 @@ pub fn passes(m: &[u64]) -> bool
         return false;
     }
     let mut ways = [0u64; 72];
-    let mut r = bits::next_marked(&m[64..72], 0);
+    let first = bits::first_spot(&m[64..72], 0);
+    let mut r = first.at;
+    let mut rest = first.rest;
     while r < crate::Book::RULES {
         if !check_record(m, &mut ways, r) {
             return false;
         }
-        r = bits::next_marked(&m[64..72], r + 1);
+        let next = bits::next_spot(&m[64..72], r, rest);
+        r = next.at;
+        rest = next.rest;
     }
-    let held = bits::count(&m[0..72]);
-    if bits::count(&aims) != held {
+    if !bits::same(&aims, &m[0..72]) {
         return false;
     }
-    bits::count(&ways) == held
+    bits::same(&ways, &m[0..72])
 }

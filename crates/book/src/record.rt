@@ -2,9 +2,8 @@
 ghost use mathlib.Core.Path.{_≡_};
 ghost use mathlib.Core.List.{_++_, _∷_, []};
 ghost use Prim.Native.Nat.{ℕ, _+_, _-_, _≤_, _<_};
-ghost use mathlib.Core.Bool.{true, false};
 ghost use lib.ListN.{length, take, replicate, getD};
-ghost use Rattle.bits.specs.Packed.{fields};
+ghost use Rattle.bits.specs.Packed.{parts, fields, Zeros};
 ghost use Rattle.book.specs.Memory.{formOf};
 
 // The 32 cells of a record's words.
@@ -21,10 +20,44 @@ pub fn load(words: &[u64]) -> [u16; 32]
     cells
 }
 
+// The same of words whose cells are zero from `size` on: the words behind them are not read.
+pub fn load_term(words: &[u64], size: usize) -> [u16; 32]
+    requires { ⌜ length (now words) ≡ 8 ⌝ }
+    requires { ⌜ size ≤ 32 ⌝ }
+    requires { ⌜ Zeros (fields (now words)) size ⌝ }
+    ensures { λ r. ⌜ r ≡ fields (now (words .entry)) ⌝ }
+{
+    let mut cells = [0u16; 32];
+    let mut i: usize = 0;
+    while i < size {
+        cells[i] = bits::field(words, i);
+        cells[i + 1] = bits::field(words, i + 1);
+        cells[i + 2] = bits::field(words, i + 2);
+        cells[i + 3] = bits::field(words, i + 3);
+        i += 4;
+    }
+    cells
+}
+
 fn cell_or_zero(term: &[u16], i: usize) -> u16
     ensures { λ r. ⌜ r ≡ getD (now (term .entry)) i 0 ⌝ }
 {
     if i < term.len() { term[i] } else { 0 }
+}
+
+// Four cells from a place on as one word: a word past the end costs one test, and most terms are short.
+fn four(term: &[u16], i: usize) -> u64
+    requires { ⌜ i < 32 ⌝ }
+    ensures { λ r. ⌜ ((j : ℕ) → j < 4 → getD (parts 16 4 r) j 0 ≡ getD (now (term .entry)) (i + j) 0) ⌝ }
+{
+    if term.len() <= i {
+        return 0;
+    }
+    let a = crate::wide(cell_or_zero(term, i));
+    let b = crate::wide(cell_or_zero(term, i + 1));
+    let c = crate::wide(cell_or_zero(term, i + 2));
+    let d = crate::wide(cell_or_zero(term, i + 3));
+    ((a * 65536 + b) * 65536 + c) * 65536 + d
 }
 
 // A term's cells, and zeros, into a record's words.
@@ -33,8 +66,8 @@ pub fn store(words: &mut [u64], term: &[u16])
     ensures { λ _. ⌜ fields (now (words .exit)) ≡ now (term .entry) ++ replicate (32 - length (now (term .entry))) 0 ⌝ }
 {
     let mut i: usize = 0;
-    while i < 32 {
-        bits::put_field(words, i, cell_or_zero(term, i));
+    while i < 8 {
+        words[i] = four(term, 4 * i);
         i += 1;
     }
 }
@@ -51,19 +84,4 @@ pub fn row(cells: &[u16], size: usize, number: u16) -> [u16; 33]
         i += 1;
     }
     row
-}
-
-// Are all cells from a place on zero?
-pub fn zeros_from(cells: &[u16], from: usize) -> bool
-    ensures yes { λ r. ⌜ (r ≡ true → (i : ℕ) → from ≤ i → getD (now (cells .entry)) i 0 ≡ 0) ⌝ }
-    ensures no { λ r. ⌜ (r ≡ false → ((i : ℕ) → from ≤ i → getD (now (cells .entry)) i 0 ≡ 0) → ⊥) ⌝ }
-{
-    let mut i = from;
-    while i < cells.len() {
-        if cells[i] != 0 {
-            return false;
-        }
-        i += 1;
-    }
-    true
 }

@@ -1,4 +1,6 @@
 -- Why the search does what it promises.
+pub mod Threads
+pub mod Seeking
 pub mod Deciding
 pub mod Lending
 pub mod Searching

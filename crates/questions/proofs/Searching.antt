@@ -16,22 +16,20 @@ use Rattle.term.specs.Steps.{Stands}
 use Rattle.term.specs.Whole.{whole-term}
 use Rattle.tree.specs.Shape.{Shape, child, after, Used, Tree}
 use Rattle.tree.specs.Words.{cellOf, firstOf, nextOf, word}
-use Rattle.tree.specs.Rows.{passes-tree}
 use Rattle.tree.specs.Tally.{marked}
 use Rattle.tree.specs.Tallies.{mark-here, mark-other}
 use Rattle.tree.specs.Trie.{Trie, node, trie, height, Bounded, FUEL}
 use Rattle.tree.specs.Unfolded.{no-trie, opens, height-root}
 use Rattle.tree.specs.Search.{keep, hits, pending, work, pending-same, work-same, none-gives, none-less, fail-less, child-gives, child-less, height-next, height-child}
 use Rattle.tree.specs.Promises.{Marked}
-use Rattle.tree.specs.Limits.{used-low, bounded}
-use Rattle.tree.specs.Leaves.{rows-short}
 use Rattle.book.specs.Memory.{view, term, Passing, rulesIn}
-use Rattle.book.specs.Holding.{hanging, at-holds, holds-at}
+use Rattle.book.specs.Holding.{at-holds, holds-at}
 use Rattle.book.specs.Promises.{IsTerm}
 use Rattle.questions.specs.declared.Point.{Point}
 use Rattle.questions.specs.Demand2.{term-form}
 use Rattle.questions.specs.Walk.{Walk, reading, listed, next, good, failed-none, listed-none, found, found-rule, rule-found}
 use Rattle.questions.specs.Promises.{walkBefore, walkAfter, Goes, Turned, Answering, Searched}
+use Rattle.questions.proofs.Threads as threads
 
 none : Point
 none = record { link = 0; skip = 0; place = 0 }
@@ -80,33 +78,23 @@ module _ (fq fr : Bool) (ws q : List ℕ) (b : Book ws q) where
   m = view ws .tree
 
   abbrev pub tree : Tree (view ws .tree)
-  tree = passes-tree (b .passing .right .tree)
-
-  tree-long : length (take 4681 ws) ≡ 4681
-  tree-long = omega (arith, length-take 4681 ws, b .passing .size)
+  tree = threads.tree ws (b .passing)
 
   pub low : (n : ℕ) → Used (view ws .tree) n → n < 4608
-  low n u = used-low (take 4681 ws) tree-long n u
+  low = threads.low ws (b .passing)
 
   pub wq : Terms 1 (blankForm q)
   wq = term-form q (b .whole)
 
   pub bound : Bounded (view ws .tree)
-  bound = bounded (take 4681 ws) tree-long (λ l. words (72 + l)) _ (b .passing .right .tree) (rows-short (hanging (view ws) low (b .passing .right)))
-    where
-      words : (i : ℕ) → getD (take 4681 ws) i 0 < 2 ^ 64
-      words i = go (native.Mathlib.Decide.decLt i 4681)
-        where
-          go : Dec (i < 4681) → getD (take 4681 ws) i 0 < 2 ^ 64
-          go (yes h) = subst (λ (x : ℕ). x < 2 ^ 64) (sym (getD-take 4681 ws i 0 h)) (b .words i)
-          go (no h) = subst (λ (x : ℕ). x < 2 ^ 64) (sym (lib.ListN.List·getD-eq-default (take 4681 ws) 0 (omega (arith, tree-long)))) (lib.Dec.lit< tt)
+  bound = threads.bound ws (b .passing) (b .words)
 
   all : List ℕ
   all = found fq fr (blankForm q) wq (view ws) low (b .passing .right) bound
 
   -- the word of a used node
   pub word-of : (n : ℕ) → Used (view ws .tree) n → word (take 4681 ws) (suc n) ≡ getD ws (72 + suc n) 0
-  word-of n u = let l = low n u in getD-take 4681 ws (72 + suc n) 0 (omega arith)
+  word-of = threads.word-of ws (b .passing)
 
   -- what the loop keeps
   pub record Searching (marks₀ marks : List ℕ) (l : List Point) (d : ℕ) : Type 0 where

@@ -12,7 +12,7 @@ use Rattle.tree.specs.Words.{cellOf}
 use Rattle.questions.specs.declared.Point.{Point}
 use Rattle.questions.specs.declared.Points.{Points}
 use Rattle.questions.specs.Walk.{good}
-use Rattle.questions.specs.Promises.{Turned, Placed, Tried, Answered, Passed, Deeper, wordAt}
+use Rattle.questions.specs.Promises.{Turned, Placed, Tried, Answered, Passed, Deeper, wordAt, moved}
 
 -- a rule that is listed has nothing below
 pub none-below : (fq fr : Bool) (q : List ℕ) (w skip place : ℕ) (lists : Bool) (down skip′ place′ : ℕ) → Turned fq fr q w skip place lists down skip′ place′ → lists ≡ true → down ≡ 0
@@ -21,6 +21,10 @@ none-below fq fr q w skip place lists down skip′ place′ t f = go (ℕ-discre
     go : Dec (down ≡ 0) → down ≡ 0
     go (yes z) = z
     go (no d) = absurd (true≢false f (t .lists-is ∙ ap (good fq fr) (t .goes d .walk)))
+
+-- the points are placed by the machine's numbers, whatever link it came from
+pub placed-at : (w : ℕ) (p : Point) (x down skip′ place′ depth : ℕ) (r : Points) → Placed w p down skip′ place′ depth r → Placed w (moved p x) down skip′ place′ depth r
+placed-at w p x down skip′ place′ depth r a = record { beside = a .beside; below = a .below; level = a .level; more = a .more }
 
 module _ (fq fr : Bool) (ws q marks : List ℕ) (p : Point) (depth : ℕ) (some : ¬ (p .link ≡ 0)) (lists : Bool) (down skip′ place′ : ℕ) (t : Turned fq fr q (wordAt ws p) (p .skip) (p .place) lists down skip′ place′) (r : Points) (at : Placed (wordAt ws p) p down skip′ place′ depth r) where
   tried : (says : Bool) → lists ≡ says → Tried fq fr ws q p r says

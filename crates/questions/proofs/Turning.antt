@@ -1,23 +1,25 @@
 -- A turn of the search in the words of its loop: a depth for the level above it, a link for the node behind it.
 use mathlib.Core.Path.{_≡_, refl, sym, ap, _∙_, subst}
-use mathlib.Core.Logic.{inl, inr}
-use mathlib.Core.List.{List}
+use mathlib.Core.Logic.{_⊎_, inl, inr}
+use mathlib.Core.List.{List, [], _∷_}
 use mathlib.Core.Bool.{Bool, true, false}
-use Prim.Native.Nat.{ℕ, suc, _+_, _-_, _*_, _≤_, _<_}
+use Prim.Native.Nat.{ℕ, zero, suc, _+_, _-_, _*_, _≤_, _<_}
 use native.Mathlib.Omega.{arith}
 use native.Mathlib.Decide.{ℕ-discrete}
 use lib.ListN.{length, getD, set}
-use lib.Seq.{getD-take}
+use lib.Seq.{getD-take, getD-set-same}
 use Rattle.bits.specs.Packed.{bits}
+use Rattle.term.specs.Machine.{failed}
 use Rattle.term.specs.Steps.{Stands}
+use Rattle.tree.specs.Shape.{Used}
 use Rattle.term.specs.Counting.{true≢false}
 use Rattle.tree.specs.Words.{cellOf, firstOf, nextOf}
-use Rattle.book.specs.Memory.{Passing}
+use Rattle.book.specs.Memory.{view, Passing}
 use Rattle.book.specs.Promises.{IsTerm}
 use Rattle.questions.specs.declared.Point.{Point}
 use Rattle.questions.specs.Walk.{Walk, reading, listed, good}
 use Rattle.questions.specs.declared.Points.{Points}
-use Rattle.questions.specs.Promises.{Turned, Searched, Rooted, wordAt, Stood, Ended, Answered, Passed, Deeper, Became}
+use Rattle.questions.specs.Promises.{walkAfter, Turned, Searched, Rooted, wordAt, besideOf, Skips, stay, skip-on, Tryable, Stood, Ended, Answered, Passed, Deeper, Became}
 use Rattle.questions.proofs.Trying.{none-below}
 use Rattle.questions.proofs.Searching.{Book, Searching, left, linkAt, starts, aside, aside-left, drops, drops-less, stands, node-low, passes-by, marks-it, number-low, beside-less, goes-down, down-less, searched}
 
@@ -134,14 +136,69 @@ pub record Again (fq fr : Bool) (ws q marks₀ : List ℕ) (l : List Point) (dep
   pub again : Loop fq fr ws q marks₀ marks′ l′ depth′
   pub fewer : left fq fr ws l′ depth′ < left fq fr ws l depth
 
+-- ---- siblings that are skipped
+
+-- the point at a place that was set
+at-set : (l : List Point) (k : ℕ) (p : Point) → k < length l → pointAt (set l k p) k ≡ p
+at-set l k p h = getD-set-same l k p _ h
+
+set-twice : (l : List Point) (k : ℕ) (p r : Point) → set (set l k p) k r ≡ set l k r
+set-twice [] k p r = refl
+set-twice (x ∷ l) zero p r = refl
+set-twice (x ∷ l) (suc k) p r = ap (λ (z : List Point). x ∷ z) (set-twice l k p r)
+
+set-same : (l : List Point) (k : ℕ) → k < length l → set l k (pointAt l k) ≡ l
+set-same [] k h = absurd (omega arith)
+set-same (x ∷ l) zero h = refl
+set-same (x ∷ l) (suc k) h = ap (λ (z : List Point). x ∷ z) (set-same l k (omega arith))
+
+-- The loop stands as well at a point to which it may skip, with no more left.
+record Skipped (fq fr : Bool) (ws q marks₀ marks : List ℕ) (l : List Point) (depth : ℕ) (x : Point) : Type 0 where
+  loop : Loop fq fr ws q marks₀ marks (set l (depth - 1) x) depth
+  less : left fq fr ws (set l (depth - 1) x) depth ≤ left fq fr ws l depth
+
 module _ (fq fr : Bool) (ws q marks₀ marks : List ℕ) (l : List Point) (depth : ℕ) (i : Loop fq fr ws q marks₀ marks l depth) (h : 0 < depth) where
-  pub stood : Stood fq fr ws q marks (pointAt l (depth - 1)) depth
-  stood = record {
-    size = i .0 .passing .size;
-    stands = stand fq fr ws q marks₀ marks l depth i h;
+  inside : depth - 1 < length l
+  inside = let d = i .1 .deep in omega (arith, i .1 .long)
+
+  skipped : {x : Point} → Skips fq fr ws q (pointAt l (depth - 1)) x → Skipped fq fr ws q marks₀ marks l depth x
+  skipped stay = record {
+    loop = subst (λ (z : List Point). Loop fq fr ws q marks₀ marks z depth) (sym (set-same l (depth - 1) inside)) i;
+    less = subst (λ (z : List Point). left fq fr ws z depth ≤ left fq fr ws l depth) (sym (set-same l (depth - 1) inside)) (omega arith);
+  }
+  skipped (skip-on {x} before some fails) = go (skipped before)
+    where
+      go : Skipped fq fr ws q marks₀ marks l depth x → Skipped fq fr ws q marks₀ marks l depth (besideOf ws x)
+      go s = record {
+        loop = subst (λ (z : List Point). Loop fq fr ws q marks₀ marks z depth) same
+            (past fq fr ws q marks₀ marks (set l (depth - 1) x) depth (s .loop) h some′ _ refl _ refl false 0 0 0 turned′ refl refl);
+        less =
+            let a = past-less fq fr ws q marks₀ marks (set l (depth - 1) x) depth (s .loop) h some′ _ refl _ refl false 0 0 0 turned′ in
+            let b = subst (λ (z : List Point). left fq fr ws z depth < left fq fr ws (set l (depth - 1) x) depth) same a in
+            let c = s .less in omega arith;
+      }
+        where
+          here : pointAt (set l (depth - 1) x) (depth - 1) ≡ x
+          here = at-set l (depth - 1) x inside
+
+          some′ : ¬ (pointAt (set l (depth - 1) x) (depth - 1) .link ≡ 0)
+          some′ z = some (ap (λ (p : Point). p .link) (sym here) ∙ z)
+
+          fails′ : walkAfter fq fr q (wordAt ws (pointAt (set l (depth - 1) x) (depth - 1))) (pointAt (set l (depth - 1) x) (depth - 1) .skip) (pointAt (set l (depth - 1) x) (depth - 1) .place) ≡ reading failed
+          fails′ = ap (λ (p : Point). walkAfter fq fr q (wordAt ws p) (p .skip) (p .place)) here ∙ fails
+
+          turned′ : Turned fq fr q (wordAt ws (pointAt (set l (depth - 1) x) (depth - 1))) (pointAt (set l (depth - 1) x) (depth - 1) .skip) (pointAt (set l (depth - 1) x) (depth - 1) .place) false 0 0 0
+          turned′ = record { lists-is = sym (ap (good fq fr) fails′); goes = λ d. absurd (d refl); stops = λ _. inl fails′ }
+
+          same : set (set l (depth - 1) x) (depth - 1) (besideOf ws (pointAt (set l (depth - 1) x) (depth - 1))) ≡ set l (depth - 1) (besideOf ws x)
+          same = set-twice l (depth - 1) x _ ∙ ap (λ (p : Point). set l (depth - 1) (besideOf ws p)) here
+
+-- ---- a turn, at the point itself
+
+module _ (fq fr : Bool) (ws q marks₀ marks : List ℕ) (l : List Point) (depth : ℕ) (i : Loop fq fr ws q marks₀ marks l depth) (h : 0 < depth) where
+  tryable : Tryable fq fr ws q marks (pointAt l (depth - 1))
+  tryable = record {
     within = low (ℕ-discrete (pointAt l (depth - 1) .link) 0);
-    some = h;
-    deep = i .1 .deep;
     number = λ nz g. number-fits fq fr ws q marks₀ marks l depth i h nz _ refl _ refl true 0 0 0 (record { lists-is = sym g; goes = λ d. absurd (d refl); stops = λ _. inr (inl (ended fq fr _ g)) }) refl;
   }
     where
@@ -191,8 +248,37 @@ module _ (fq fr : Bool) (ws q marks₀ marks : List ℕ) (l : List Point) (depth
           fewer = deeper-less fq fr ws q marks₀ marks l depth i h (t .some) _ refl _ refl false _ _ _ (t .turned) (e .goes) refl;
         }))))
 
-    pub turned : Became fq fr ws q marks marks′ (pointAt l (depth - 1)) depth r → Again fq fr ws q marks₀ l depth marks′ (set (set l (depth - 1) (r .beside)) depth (r .below)) (r .depth)
-    turned (inl e) = of-ended e
-    turned (inr (inl e)) = of-listed e
-    turned (inr (inr (inl e))) = of-passed e
-    turned (inr (inr (inr e))) = of-deeper e
+    abbrev Tries : Type 0
+    Tries = Ended marks marks′ (pointAt l (depth - 1)) depth r ⊎ (Answered fq fr ws q marks marks′ (pointAt l (depth - 1)) depth r ⊎ (Passed fq fr ws q marks marks′ (pointAt l (depth - 1)) depth r ⊎ Deeper fq fr ws q marks marks′ (pointAt l (depth - 1)) depth r))
+
+    tried-here : Tries → After marks′ (listed-after r) (r .depth)
+    tried-here (inl e) = of-ended e
+    tried-here (inr (inl e)) = of-listed e
+    tried-here (inr (inr (inl e))) = of-passed e
+    tried-here (inr (inr (inr e))) = of-deeper e
+
+-- ---- a turn, at the point to which it skips
+
+module _ (fq fr : Bool) (ws q marks₀ marks : List ℕ) (l : List Point) (depth : ℕ) (i : Loop fq fr ws q marks₀ marks l depth) (h : 0 < depth) where
+  at-skipped : (x : Point) → pointAt (set l (depth - 1) x) (depth - 1) ≡ x
+  at-skipped x = at-set l (depth - 1) x (inside fq fr ws q marks₀ marks l depth i h)
+
+  pub stood : Stood fq fr ws q marks (pointAt l (depth - 1)) depth
+  stood = record {
+    threaded = record { passing = i .0 .passing; used = λ n e. used-at n e };
+    stands = stand fq fr ws q marks₀ marks l depth i h;
+    some = h;
+    deep = i .1 .deep;
+    each = λ x s. subst (Tryable fq fr ws q marks) (at-skipped x) (tryable fq fr ws q marks₀ marks (set l (depth - 1) x) depth (skipped fq fr ws q marks₀ marks l depth i h s .loop) h);
+  }
+    where
+      used-at : (n : ℕ) → pointAt l (depth - 1) .link ≡ suc n → Used (view ws .tree) n
+      used-at n e = i .1 .used (depth - 1) (omega arith) n (link-is fq fr ws q marks₀ marks l depth i h ∙ e)
+
+  pub turned : (marks′ : List ℕ) (r : Points) → Became fq fr ws q marks marks′ (pointAt l (depth - 1)) depth r → Again fq fr ws q marks₀ l depth marks′ (set (set l (depth - 1) (r .beside)) depth (r .below)) (r .depth)
+  turned marks′ r b =
+      let s = skipped fq fr ws q marks₀ marks l depth i h (b .skips) in
+      let t = subst (λ (p : Point). Ended marks marks′ p depth r ⊎ (Answered fq fr ws q marks marks′ p depth r ⊎ (Passed fq fr ws q marks marks′ p depth r ⊎ Deeper fq fr ws q marks marks′ p depth r))) (sym (at-skipped (b .to))) (b .tries) in
+      let a = tried-here fq fr ws q marks₀ marks (set l (depth - 1) (b .to)) depth (s .loop) h marks′ r t in
+      subst (λ (z : List Point). Again fq fr ws q marks₀ l depth marks′ (set z depth (r .below)) (r .depth)) (set-twice l (depth - 1) (b .to) (r .beside))
+      (record { again = a .again; fewer = (let x = a .fewer in let y = s .less in omega arith) })

@@ -113,10 +113,10 @@ module _ (marks out₀ out : List ℕ) (n k : ℕ) (w : Written marks out₀ out
 pub few : (marks out₀ out : List ℕ) (n k : ℕ) → Written marks out₀ out n k → n ≤ 4096
 few marks out₀ out n k w = omega (arith, w .count, w .upto, numbers-tally (marked marks) k, tally-le (marked marks) k)
 
-pub written : (marks out₀ out : List ℕ) (n k : ℕ) → Written marks out₀ out n k → 4096 ≤ k → Lists marks out₀ out
+pub written : (marks out₀ out : List ℕ) (n k : ℕ) → Written marks out₀ out n k → 4096 ≤ k → Lists marks out₀ out n
 written marks out₀ out n k w h =
     let e : k ≡ 4096 = omega (arith, w .upto) in
-    w .is ∙ ap (λ (i : ℕ). numbers (marked marks) k ++ drop i out₀) (w .count) ∙ ap (λ (j : ℕ). numbers (marked marks) j ++ drop (length (numbers (marked marks) j)) out₀) e
+    record { count = w .count ∙ ap (λ (j : ℕ). length (numbers (marked marks) j)) e; is = w .is ∙ ap (λ (j : ℕ). numbers (marked marks) j ++ drop n out₀) e }
 
 pub still-long : (marks out₀ out : List ℕ) (n k : ℕ) → Written marks out₀ out n k → length out ≡ length out₀
 still-long marks out₀ out n k w =

@@ -3,7 +3,7 @@ use mathlib.Core.Path.{_≡_}
 use mathlib.Core.Logic.{_⊎_, _↔_}
 use mathlib.Core.List.{List, _++_}
 use mathlib.Core.Bool.{Bool, true, false}
-use Prim.Native.Nat.{ℕ, _+_, _-_, _*_, _^_, _≤_, _<_}
+use Prim.Native.Nat.{ℕ, suc, _+_, _-_, _*_, _^_, _≤_, _<_}
 use lib.ListN.{length, getD, set, drop}
 use Rattle.bits.specs.Packed.{bits}
 use Rattle.term.specs.Cells.{blankForm}
@@ -13,7 +13,8 @@ use Rattle.tree.specs.Words.{cellOf, firstOf, nextOf}
 use Rattle.tree.specs.Tally.{marked}
 use Rattle.tree.specs.Promises.{Marked}
 use Rattle.book.specs.Rules.{rule}
-use Rattle.book.specs.Memory.{rulesIn}
+use Rattle.tree.specs.Shape.{Used}
+use Rattle.book.specs.Memory.{view, Passing, rulesIn}
 use Rattle.questions.specs.declared.Point.{Point}
 use Rattle.questions.specs.declared.Points.{Points}
 use Rattle.questions.specs.Asking.{numbers}
@@ -50,14 +51,51 @@ pub record Placed (w : ℕ) (p : Point) (down skip′ place′ depth : ℕ) (r :
 abbrev pub wordAt : List ℕ → Point → ℕ
 wordAt ws p = getD ws (72 + p .link) 0
 
--- What a turn asks of the point that it tries: the machine can stand there, its node is in the tree, and a rule that is listed has a number with a mark.
+-- the sibling of the node at a point takes its place
+abbrev pub besideOf : List ℕ → Point → Point
+besideOf ws p = record { link = nextOf (wordAt ws p); skip = p .skip; place = p .place }
+
+-- From the link on, sibling by sibling, to x: each that is passed is a symbol, and not the one with the cell.
+pub data PassesBy (ws : List ℕ) (cell link : ℕ) : ℕ → Type 0 where
+  start : PassesBy ws cell link link
+  pass-on : {x : ℕ} → PassesBy ws cell link x → ¬ (x ≡ 0) → cellOf (getD ws (72 + x) 0) < 32768 → ¬ (cellOf (getD ws (72 + x) 0) ≡ cell) → PassesBy ws cell link (nextOf (getD ws (72 + x) 0))
+
+-- Passed by up to r; or up to a symbol above `last`, and r is none.
+pub data Sought (ws : List ℕ) (cell last link r : ℕ) : Type 0 where
+  reached : PassesBy ws cell link r → Sought ws cell last link r
+  beyond : {x : ℕ} → PassesBy ws cell link x → ¬ (x ≡ 0) → last < cellOf (getD ws (72 + x) 0) → cellOf (getD ws (72 + x) 0) < 32768 → r ≡ 0 → Sought ws cell last link r
+
+-- From the point on, sibling by sibling: at each that is skipped the machine fails.
+pub data Skips (fq fr : Bool) (ws question : List ℕ) (p : Point) : Point → Type 0 where
+  stay : Skips fq fr ws question p p
+  skip-on : {x : Point} → Skips fq fr ws question p x → ¬ (x .link ≡ 0) → walkAfter fq fr question (wordAt ws x) (x .skip) (x .place) ≡ reading failed → Skips fq fr ws question p (besideOf ws x)
+
+-- Unless it is 65,536, each other symbol makes the machine fail, and where it is a symbol and the rule's blanks may not be filled, any other cell.
+pub record Decisive (fq : Bool) (question : List ℕ) (skip place cell : ℕ) : Type 0 where
+  pub symbols : ¬ (cell ≡ 65536) → (fr : Bool) (d : ℕ) → d < 32768 → ¬ (d ≡ cell) → next fq fr d (walkBefore question skip place) ≡ reading failed
+  pub any : cell < 32768 → (d : ℕ) → ¬ (d ≡ cell) → next fq false d (walkBefore question skip place) ≡ reading failed
+
+-- The point p at a link further on.
+abbrev pub moved : Point → ℕ → Point
+moved p x = record { link = x; skip = p .skip; place = p .place }
+
+-- A link of a passing book's tree: none, or that of a node in use.
+pub record Threaded (ws : List ℕ) (link : ℕ) : Type 0 where
+  pub passing : Passing ws
+  pub used : (n : ℕ) → link ≡ suc n → Used (view ws .tree) n
+
+-- What a turn asks of the point x that it comes to: its node is in the tree, and a rule that is listed has a number with a mark.
+pub record Tryable (fq fr : Bool) (ws question marks : List ℕ) (x : Point) : Type 0 where
+  pub within : x .link ≤ 4608
+  pub number : ¬ (x .link ≡ 0) → good fq fr (walkAfter fq fr question (wordAt ws x) (x .skip) (x .place)) ≡ true → cellOf (wordAt ws x) < 64 * length marks
+
+-- What it asks of the point that it begins with: the machine can stand there, and each point that it may skip to can be tried.
 pub record Stood (fq fr : Bool) (ws question marks : List ℕ) (p : Point) (depth : ℕ) : Type 0 where
-  pub size : length ws ≡ 10313
+  pub threaded : Threaded ws (p .link)
   pub stands : Stands question (p .skip) (p .place)
-  pub within : p .link ≤ 4608
   pub some : 0 < depth
   pub deep : depth ≤ 34
-  pub number : ¬ (p .link ≡ 0) → good fq fr (walkAfter fq fr question (wordAt ws p) (p .skip) (p .place)) ≡ true → cellOf (wordAt ws p) < 64 * length marks
+  pub each : (x : Point) → Skips fq fr ws question p x → Tryable fq fr ws question marks x
 
 -- The point has no node, and goes.
 pub record Ended (marks marks′ : List ℕ) (p : Point) (depth : ℕ) (r : Points) : Type 0 where
@@ -68,7 +106,7 @@ pub record Ended (marks marks′ : List ℕ) (p : Point) (depth : ℕ) (r : Poin
 -- It has one, and its sibling takes its place.
 pub record Tried (fq fr : Bool) (ws question : List ℕ) (p : Point) (r : Points) (lists : Bool) : Type 0 where
   pub some : ¬ (p .link ≡ 0)
-  pub beside : r .beside ≡ record { link = nextOf (wordAt ws p); skip = p .skip; place = p .place }
+  pub beside : r .beside ≡ besideOf ws p
   pub turned : Turned fq fr question (wordAt ws p) (p .skip) (p .place) lists (r .below .link) (r .below .skip) (r .below .place)
 
 -- Then its rule is listed; or there is nothing below; or its first child stands above.
@@ -90,10 +128,11 @@ pub record Deeper (fq fr : Bool) (ws question marks marks′ : List ℕ) (p : Po
   pub goes : ¬ (r .below .link ≡ 0)
   pub more : r .depth ≡ depth + 1
 
--- What a turn at the point p makes of the marks and the list.
-abbrev pub Became : Bool → Bool → (ws question marks marks′ : List ℕ) → Point → ℕ → Points → Type 0
-Became fq fr ws question marks marks′ p depth r =
-    Ended marks marks′ p depth r ⊎ (Answered fq fr ws question marks marks′ p depth r ⊎ (Passed fq fr ws question marks marks′ p depth r ⊎ Deeper fq fr ws question marks marks′ p depth r))
+-- What a turn at the point p makes of the marks and the list: siblings at which the machine fails are skipped, and the next is tried.
+pub record Became (fq fr : Bool) (ws question marks marks′ : List ℕ) (p : Point) (depth : ℕ) (r : Points) : Type 0 where
+  pub to : Point
+  pub skips : Skips fq fr ws question p to
+  pub tries : Ended marks marks′ to depth r ⊎ (Answered fq fr ws question marks marks′ to depth r ⊎ (Passed fq fr ws question marks marks′ to depth r ⊎ Deeper fq fr ws question marks marks′ to depth r))
 
 -- The point that the search begins with: the tree's first node, and the machine before all cells.
 pub record IsRoot (ws : List ℕ) (p : Point) : Type 0 where
@@ -121,6 +160,7 @@ Searched fq fr ws question marks marks′ = (k : ℕ) → Marked marks′ k ↔ 
 abbrev pub Asked : Bool → Bool → (ws question marks : List ℕ) → Type 0
 Asked fq fr ws question marks = (k : ℕ) → Marked marks k ↔ Answering fq fr ws question k
 
--- The marked numbers are written from the front of the cells, and the cells behind them stay.
-abbrev pub Lists : (marks out out′ : List ℕ) → Type 0
-Lists marks out out′ = out′ ≡ numbers (marked marks) 4096 ++ drop (length (numbers (marked marks) 4096)) out
+-- The marked numbers are written from the front of the cells, n of them, and the cells behind them stay.
+pub record Lists (marks out out′ : List ℕ) (n : ℕ) : Type 0 where
+  pub count : n ≡ length (numbers (marked marks) 4096)
+  pub is : out′ ≡ numbers (marked marks) 4096 ++ drop n out

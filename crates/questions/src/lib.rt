@@ -11,7 +11,7 @@ ghost use Rattle.book.specs.Memory.{Passing};
 ghost use Rattle.book.specs.Promises.{IsTerm};
 ghost use Rattle.tree.specs.Tally.{marked};
 ghost use Rattle.questions.specs.Asking.{numbers};
-ghost use Rattle.questions.specs.Promises.{Turned, Placed, Stood, Became, IsRoot, Rooted, Searched, Asked, Lists};
+ghost use Rattle.questions.specs.Promises.{Turned, Placed, Sought, Decisive, Skips, moved, Threaded, Stood, Became, IsRoot, Rooted, Searched, Asked, Lists};
 use term::machine;
 
 // A point still to be tried: a link, the subterms of a rule still to skip there, and the place in the question.
@@ -112,8 +112,69 @@ pub fn place_points(w: u64, p: Point, t: Decision, depth: usize) -> Points
     }
 }
 
-// A turn of the search at the point p, the last of `depth`: without a node the point goes; else one load, one step of the
-// machine, and the mark of a rule that is listed.
+// The first sibling from the link on whose cell is the one wanted, or that is a blank; none where a symbol above `last` comes
+// before. Most siblings are passed here, at one load each and nothing stored.
+fn sibling(m: &[u64], cell: u64, last: u64, link: usize) -> usize
+    requires { ⌜ Threaded (now m) link ⌝ }
+    ensures { λ r. ⌜ Sought (now (m .entry)) cell last link r ⌝ }
+{
+    let mut x = link;
+    while x != 0 {
+        let w = m[72 + x];
+        let c = tree::cell_of(w);
+        if c == cell {
+            return x;
+        }
+        if 0x8000 <= c {
+            return x;
+        }
+        if last < c {
+            return 0;
+        }
+        x = tree::next_of(w) as usize;
+    }
+    x
+}
+
+// The one symbol with which the machine can go on, 0x8000 where it is no symbol, or 65,536 where it may be any: there are
+// subterms to skip, or the question is at its end, or its cell may be filled.
+fn wanted(fills_question: bool, question: &[u16], skip: usize, place: usize) -> u64
+    ensures { λ r. ⌜ Decisive «fills_question» (now (question .entry)) skip place r ⌝ }
+{
+    if 0 < skip {
+        return 65536;
+    }
+    if question.len() <= place {
+        return 65536;
+    }
+    let c = question[place];
+    if c < 0x8000 {
+        return c as u64;
+    }
+    if fills_question {
+        return 65536;
+    }
+    0x8000
+}
+
+// The link from which on the machine may go on. Siblings ascend, so where a rule's blank may not be filled nothing is to be
+// found behind the symbol wanted; else the blank is the last of them.
+fn seek(m: &[u64], fills_question: bool, fills_rule: bool, question: &[u16], p: Point) -> usize
+    requires { ⌜ Threaded (now m) (p .link) ⌝ }
+    ensures { λ r. ⌜ Skips «fills_question» «fills_rule» (now (m .entry)) (now (question .entry)) p (moved p r) ⌝ }
+{
+    let c = wanted(fills_question, question, p.skip, p.place);
+    if c == 65536 {
+        return p.link;
+    }
+    if fills_rule {
+        return sibling(m, c, 65536, p.link);
+    }
+    sibling(m, c, c, p.link)
+}
+
+// A turn of the search at the point p, the last of `depth`: siblings at which the machine fails are skipped; without a node the
+// point goes; else one load, one step of the machine, and the mark of a rule that is listed.
 pub fn turn(
     m: &[u64],
     fills_question: bool,
@@ -126,7 +187,7 @@ pub fn turn(
     requires { ⌜ Stood «fills_question» «fills_rule» (now m) (now question) (now marks) p depth ⌝ }
     ensures { λ r. ⌜ Became «fills_question» «fills_rule» (now (m .entry)) (now (question .entry)) (now (marks .entry)) (now (marks .exit)) p depth r ⌝ }
 {
-    let x = p.link;
+    let x = seek(m, fills_question, fills_rule, question, p);
     if x == 0 {
         return Points {
             beside: p,
@@ -208,11 +269,11 @@ pub fn ask(m: &[u64], fills_question: bool, fills_rule: bool, question: &[u16]) 
     marks
 }
 
-// Writes the marked numbers, ascending, from the front of `out`. They are as many as there are set bits.
-pub fn list(marks: &[u64], out: &mut [u16])
+// Writes the marked numbers, ascending, from the front of `out`, and answers how many they are.
+pub fn list(marks: &[u64], out: &mut [u16]) -> usize
     requires { ⌜ length (now marks) ≡ 64 ⌝ }
     requires { ⌜ length (numbers (marked (now marks)) 4096) ≤ length (now out) ⌝ }
-    ensures { λ _. ⌜ Lists (now (marks .entry)) (now (out .entry)) (now (out .exit)) ⌝ }
+    ensures { λ n. ⌜ Lists (now (marks .entry)) (now (out .entry)) (now (out .exit)) n ⌝ }
 {
     let mut n: usize = 0;
     let mut k = bits::next_marked(marks, 0);
@@ -221,4 +282,5 @@ pub fn list(marks: &[u64], out: &mut [u16])
         n += 1;
         k = bits::next_marked(marks, k + 1);
     }
+    n
 }

@@ -1,28 +1,29 @@
 -- A chain grows by the lowest free node, which is there as long as not all nodes are used
 use mathlib.Core.Path.{_≡_, refl, sym, ap, _∙_, subst}
 use mathlib.Core.List.{List, [], _∷_, _++_, reverse}
-use mathlib.Core.Bool.{true}
-use Prim.Native.Nat.{ℕ, zero, suc, _+_, _-_, _≤_, _<_}
-use native.Mathlib.Nat.{add-zero}
+use mathlib.Core.Bool.{Bool, true, false}
+use Prim.Native.Nat.{ℕ, zero, suc, _+_, _-_, _*_, _/_, _%_, _^_, _≤_, _<_}
+use native.Mathlib.Nat.{add-zero, zero-div}
 use native.Mathlib.Numerals.{add-one}
 use native.Mathlib.Omega.{arith}
 use native.Mathlib.Decide.{decLt}
 use lib.Dec.{eqb}
 use lib.ListN.{length, getD, take, drop, length-take, length-drop, length-append, length-reverse}
-use lib.Seq.{getD-drop, take-all}
-use Rattle.bits.specs.Packed.{bits, sum, First}
-use Rattle.bits.specs.Laws.{length-bits, bit-low}
+use lib.Seq.{getD-drop, getD-take, take-all}
+use Rattle.bits.specs.Packed.{bits, sum, Skipped, First}
+use Rattle.bits.specs.Laws.{length-bits, get-bit, bit-low}
+use Rattle.term.specs.Counting.{true≢false}
 use Rattle.tree.specs.Basics.{up-live}
-use Rattle.tree.specs.Shape.{Used, owner, Up, Tree}
+use Rattle.tree.specs.Shape.{Place, Used, owner, Up, Tree}
 use Rattle.tree.specs.Order.{childless}
 use Rattle.tree.specs.Change.{Links, Sorted, Lowest, Grown, none, more}
 use Rattle.tree.specs.Link.{link-tree}
 use Rattle.tree.specs.Partly.{grown-up}
-use Rattle.tree.specs.Tally.{tally}
+use Rattle.tree.specs.Tally.{bit, tally}
 use Rattle.tree.specs.Tallies.{tally-more, tally-all, tally-le}
 use Rattle.tree.specs.Words.{shape, place}
 use Rattle.tree.specs.Promises.{Sound, Found, Absent, Descended, Planted}
-use Rattle.tree.specs.Needs.{Ready, Room, Growing}
+use Rattle.tree.specs.Needs.{Room, Next, Growing}
 use Rattle.tree.specs.Limits.{live-low, place-low, nodes-held, node-bit}
 use Rattle.tree.proofs.Walking.{found-sorted, take-next}
 
@@ -55,22 +56,37 @@ module _ (ws : List ℕ) (size : length ws ≡ 4681) (n : ℕ) (f : First 0 (bit
       let q = free-low h in
       record { low = q; free = sym (node-bit ws n q) ∙ ap (λ (x : ℕ). eqb x 1) (f .here (omega (arith, long))); below = below }
 
+-- the words before k have no free node
+pub record Full (ws : List ℕ) (k : ℕ) : Type 0 where
+  pub within : k ≤ 64
+  pub used : (y : ℕ) → y < k * 64 → Used (shape ws) y
+
+pub full-none : (ws : List ℕ) → Full ws 0
+full-none ws = record { within = omega arith; used = λ y h. absurd (omega arith) }
+
+pub full-skipped : (ws : List ℕ) (k : ℕ) → Full ws k → Skipped 0 (bits (take 64 ws)) 0 (k * 64)
+full-skipped ws k f y a h e = true≢false (node-bit ws y (let w = f .within in omega arith) ∙ f .used y h) (ap (λ (x : ℕ). eqb x 1) e)
+
+pub full-on : (ws ws′ : List ℕ) → length ws ≡ 4681 → (n : ℕ) → First 0 (bits (take 64 ws)) 0 n → n < 4096 → {s : Place} {c : ℕ} → Links (shape ws) (shape ws′) s c n
+    → Full ws′ (n / 64)
+full-on ws ws′ size n f l k = record {
+  within = omega arith;
+  used = λ y h. k .kept .used y (λ e. omega arith) ∙ below ws size n f y (omega arith);
+}
+
 -- the loop: i cells have grown, down to l
-pub record Chain (ws₀ ws : List ℕ) (l₀ l : ℕ) (form : List ℕ) (i : ℕ) : Type 0 where
-  pub growing : Growing ws l form i
+pub record Chain (ws₀ ws : List ℕ) (l₀ l b : ℕ) (form : List ℕ) (i : ℕ) : Type 0 where
+  pub growing : Growing ws l b form i
   pub grown : Grown (shape ws₀) l₀ (reverse (take i form)) (shape ws) l
 
-pub chain-start : (ws : List ℕ) (l : ℕ) (form : List ℕ) → Growing ws l form 0 → Chain ws ws l l form 0
-chain-start ws l form g = record { growing = g; grown = none }
+pub chain-start : (ws : List ℕ) (l b : ℕ) (form : List ℕ) → Growing ws l b form 0 → Chain ws ws l l b form 0
+chain-start ws l b form g = record { growing = g; grown = none }
 
-pub chain-end : (ws₀ ws : List ℕ) (l₀ l : ℕ) (form : List ℕ) (i : ℕ) → Chain ws₀ ws l₀ l form i → length form ≤ i → Grown (shape ws₀) l₀ (reverse form) (shape ws) l
-chain-end ws₀ ws l₀ l form i g h =
+pub chain-end : (ws₀ ws : List ℕ) (l₀ l b : ℕ) (form : List ℕ) (i : ℕ) → Chain ws₀ ws l₀ l b form i → length form ≤ i → Grown (shape ws₀) l₀ (reverse form) (shape ws) l
+chain-end ws₀ ws l₀ l b form i g h =
     subst (λ (z : List ℕ). Grown (shape ws₀) l₀ (reverse z) (shape ws) l) (take-all i form h) (g .grown)
 
-module _ (ws₀ ws : List ℕ) (l₀ l : ℕ) (form : List ℕ) (i : ℕ) (g : Chain ws₀ ws l₀ l form i) (hi : i < length form) where
-  pub chain-ready : Ready ws l
-  chain-ready = record { size = g .growing .size; tree = g .growing .tree; live = g .growing .live }
-
+module _ (ws₀ ws : List ℕ) (l₀ l b : ℕ) (form : List ℕ) (i : ℕ) (g : Chain ws₀ ws l₀ l b form i) (hi : i < length form) where
   module _ (n : ℕ) (first : First 0 (bits (take 64 ws)) 0 n) where
     some-free : tally (shape ws .used) 4096 < 4096
     some-free = omega (arith, g .growing .room)
@@ -81,7 +97,10 @@ module _ (ws₀ ws : List ℕ) (l₀ l : ℕ) (form : List ℕ) (i : ℕ) (g : C
     lowest : Lowest (shape ws) n
     lowest = free-lowest ws (g .growing .size) n first some-free
 
-    module _ (b c : ℕ) (ec : c ≡ getD form i 0) (f : Found (shape ws) l b c) where
+    module _ (c : ℕ) (ec : c ≡ getD form i 0) where
+      f : Found (shape ws) l b c
+      f = subst (λ (z : ℕ). Found (shape ws) l b z) (sym ec) (g .growing .found hi)
+
       pub chain-room : c < 65536 → Room ws l b n c
       chain-room h = record {
         size = g .growing .size;
@@ -101,7 +120,11 @@ module _ (ws₀ ws : List ℕ) (l₀ l : ℕ) (form : List ℕ) (i : ℕ) (g : C
         tree′ : Tree (shape ws′)
         tree′ = link-tree (shape ws) (shape ws′) (place l b) c n (g .growing .tree) sorted k
 
-        pub chain-on : Chain ws₀ ws′ l₀ (n + 1) form (i + 1)
+        -- the new node has no child, so what comes next is its first
+        first-child : (d : ℕ) → Found (shape ws′) (suc n) 0 d
+        first-child d = record { valid = k .now; under = refl; above = omega arith; below = λ q. absurd (omega (arith, sym (k .first) ∙ q)) }
+
+        pub chain-on : Chain ws₀ ws′ l₀ (n + 1) 0 form (i + 1)
         chain-on = rw (add-one n, add-one i) (record {
           growing = record {
             size = same ∙ g .growing .size;
@@ -109,54 +132,81 @@ module _ (ws₀ ws : List ℕ) (l₀ l : ℕ) (form : List ℕ) (i : ℕ) (g : C
             live = k .now;
             within = hi;
             absent = λ h y u e d. childless (shape ws′) tree′ (suc n) (k .first) y u e;
+            found = λ h. first-child (getD form (suc i) 0);
             room = let a = tally-more (shape ws .used) (shape ws′ .used) n 4096 chain-low (k .was) (k .now) (k .kept .used) in omega (arith, g .growing .room);
           };
           grown = subst (λ (r : List ℕ). Grown (shape ws₀) l₀ r (shape ws′) (suc n)) (ap (λ (d : ℕ). d ∷ reverse (take i form)) ec ∙ sym (take-next form i hi))
               (more (place l b) (g .grown) lowest sorted (f .under) k);
         })
 
+-- ---- are there nodes enough?
+
+-- nothing from n on passes, so at most n pass
+tally-low : (u : ℕ → Bool) (n k : ℕ) → ((y : ℕ) → n ≤ y → y < k → u y ≡ false) → tally u k ≤ n
+unfolding tally
+tally-low u n zero h = omega arith
+tally-low u n (suc k) h = go (tally-low u n k (λ y m q. h y m (omega arith))) (decLt k n)
+  where
+    go : tally u k ≤ n → Dec (k < n) → tally u (suc k) ≤ n
+    go b (yes l) = let a = tally-le u (suc k) in omega arith
+    go b (no l) = let a : bit (u k) ≡ 0 = ap bit (h k (omega arith) (omega arith)) in omega arith
+
+module _ (ws : List ℕ) (size : length ws ≡ 4681) where
+  -- the last word of the map is 0: its 64 nodes are free
+  pub last-free : getD ws 63 0 ≡ 0 → tally (shape ws .used) 4096 ≤ 4032
+  last-free e = tally-low (shape ws .used) 4032 4096 (λ y a b. ap (λ (x : ℕ). eqb x 1) (free y a b))
+    where
+      free : (y : ℕ) → 4032 ≤ y → y < 4096 → getD (bits (take 72 ws)) y 0 ≡ 0
+      free y a b =
+          let q : y / 64 ≡ 63 = omega arith in
+          get-bit (take 72 ws) y
+          ∙ ap (λ (w : ℕ). w / 2 ^ (63 - y % 64) % 2) (getD-take 72 ws (y / 64) 0 (omega arith) ∙ ap (λ (k : ℕ). getD ws k 0) q ∙ e)
+          ∙ ap (λ (x : ℕ). x % 2) (zero-div (2 ^ (63 - y % 64)))
+
+  pub held-is : (held : ℕ) → held ≡ sum (bits (take 64 ws)) → held ≡ tally (shape ws .used) 4096
+  held-is held e = e ∙ nodes-held ws size
+
+  pub held-low : (held : ℕ) → held ≡ sum (bits (take 64 ws)) → held ≤ 4096
+  held-low held e = subst (λ (k : ℕ). k ≤ 4096) (sym (held-is held e)) (tally-le (shape ws .used) 4096)
+
 -- ---- the whole of it: what is missing behind the nodes that exist
 
-module _ (ws form : List ℕ) (s : Sound ws) (l i held : ℕ) (d : Descended (shape ws) form l i) (eh : held ≡ sum (bits (take 64 ws))) where
-  is : held ≡ tally (shape ws .used) 4096
-  is = eh ∙ nodes-held ws (s .size)
-
-  pub held-low : held ≤ 4096
-  held-low = subst (λ (k : ℕ). k ≤ 4096) (sym is) (tally-le (shape ws .used) 4096)
-
+module _ (ws form : List ℕ) (s : Sound ws) (l i : ℕ) (d : Descended (shape ws) form l i) where
   rest : take (length form - i) (drop i form) ≡ drop i form
   rest = take-all (length form - i) (drop i form) (omega (arith, length-drop i form))
 
-  pub plant-growing : held + (length form - i) ≤ 4096 → Growing ws l (take (length form - i) (drop i form)) 0
-  plant-growing h = subst (λ (z : List ℕ). Growing ws l z 0) (sym rest) (record {
+  cell : getD (drop i form) 0 0 ≡ getD form i 0
+  cell = getD-drop i form 0 0 ∙ ap (λ (k : ℕ). getD form k 0) (add-zero i)
+
+  pub plant-growing : tally (shape ws .used) 4096 + (length form - i) ≤ 4096 → (b : ℕ) → Next (shape ws) form l i b → Growing ws l b (take (length form - i) (drop i form)) 0
+  plant-growing h b f = subst (λ (z : List ℕ). Growing ws l b z 0) (sym rest) (record {
     size = s .size;
     tree = s .tree;
     live = up-live (d .at);
     within = omega arith;
-    absent =
-        λ q. let e = getD-drop i form 0 0 ∙ ap (λ (k : ℕ). getD form k 0) (add-zero i) in
-        subst (λ (z : ℕ). Absent (shape ws) l z) (sym e) (d .absent (omega (arith, length-drop i form)));
-    room = let e = is in omega (arith, length-drop i form);
+    absent = λ q. subst (λ (z : ℕ). Absent (shape ws) l z) (sym cell) (d .absent (omega (arith, length-drop i form)));
+    found = λ q. subst (λ (z : ℕ). Found (shape ws) l b z) (sym cell) (f (omega (arith, length-drop i form)));
+    room = omega (arith, length-drop i form);
   })
 
-  pub plant-full : 4096 < held + (length form - i) → Planted ws ws form 0
+  pub plant-full : 4096 < tally (shape ws .used) 4096 + (length form - i) → Planted ws ws form 0
   plant-full h = record {
     at = l;
     depth = i;
     descended = d;
-    full = λ e. (refl, subst (λ (k : ℕ). 4096 < k + (length form - i)) is h);
+    full = λ e. (refl, h);
     fits = λ n. absurd (n refl);
     grown = λ n. absurd (n refl);
   }
 
-  pub plant-fits : (ws′ : List ℕ) (r : ℕ) → 0 < length form → held + (length form - i) ≤ 4096
+  pub plant-fits : (ws′ : List ℕ) (r : ℕ) → 0 < length form → tally (shape ws .used) 4096 + (length form - i) ≤ 4096
       → Grown (shape ws) l (reverse (take (length form - i) (drop i form))) (shape ws′) r → Planted ws ws′ form r
   plant-fits ws′ r pos h g = record {
     at = l;
     depth = i;
     descended = d;
     full = λ e. absurd (no-root r e g);
-    fits = λ n. subst (λ (k : ℕ). k + (length form - i) ≤ 4096) is h;
+    fits = λ n. h;
     grown = λ n. g′;
   }
     where

@@ -13,7 +13,7 @@ use Rattle.tree.specs.Order.{ahead}
 use Rattle.tree.specs.Change.{Sorted}
 use Rattle.tree.specs.Words.{cellOf, firstOf, nextOf, word, shape, place}
 use Rattle.tree.specs.Promises.{Sound, Found, Absent, Descended}
-use Rattle.tree.specs.Needs.{Ready}
+use Rattle.tree.specs.Needs.{Ready, Next}
 use Rattle.tree.specs.Limits.{used-low, live-low, place-low}
 
 -- ---- along the children of p: behind b, and x comes next
@@ -91,6 +91,9 @@ descend-start m form = record { within = omega arith; at = top }
 pub descend-all : {m : Shape} {form : List ℕ} {l i : ℕ} → length form ≤ i → Descending m form l i → Descended m form l i
 descend-all h d = record { within = d .within; at = d .at; absent = λ q. absurd (omega arith) }
 
+pub next-none : (m : Shape) (form : List ℕ) (l i b : ℕ) → length form ≤ i → Next m form l i b
+next-none m form l i b h q = absurd (omega arith)
+
 pub take-next : (form : List ℕ) (i : ℕ) → i < length form → reverse (take (suc i) form) ≡ getD form i 0 ∷ reverse (take i form)
 take-next form i h = ap reverse (take-suc form i 0 h) ∙ reverse-append (take i form) (getD form i 0 ∷ [])
 
@@ -101,6 +104,9 @@ module _ (ws form : List ℕ) (s : Sound ws) (l i : ℕ) (d : Descending (shape 
   module _ (hi : i < length form) (b c x : ℕ) (ec : c ≡ getD form i 0) (f : Found (shape ws) l b c) where
     pub descend-low : (l ≤ 4608) × (b ≤ 4608)
     descend-low = (live-low ws (s .size) l (up-live (d .at)), place-low ws (s .size) l b (f .valid))
+
+    pub descend-next : Next (shape ws) form l i b
+    descend-next q = subst (λ (z : ℕ). Found (shape ws) l b z) ec f
 
     module _ (e : to (shape ws) (place l b) ≡ x) where
       pub next-low : x ≤ 4608

@@ -1,77 +1,64 @@
--- The check decides passing, both ways: the marks lie among the used nodes, so they are all of them exactly where there are as many
+-- The check decides passing, both ways: links may be followed whatever nodes are used, as in the end the marks are compared with the used ones
 use mathlib.Core.Path.{_≡_, refl, sym, _∙_, subst}
-use mathlib.Core.Logic.{_⊎_, inl, inr, _↔_}
+use mathlib.Core.Logic.{_↔_}
 use mathlib.Core.List.{List, [], reverse, List·Memᴰ, List·Memᴰ·not-nil}
 use mathlib.Core.Bool.{true, false}
 use Prim.Native.Nat.{ℕ, zero, suc, _<_}
 use native.Mathlib.Omega.{arith}
+use borrow.Author.Tests.{lt-ltb}
 use Rattle.term.specs.Counting.{true≢false}
 use Rattle.tree.specs.Basics.{up-used}
-use Rattle.tree.specs.Shape.{Shape, Place, child, after, Used, Valid, to, Up, Fits, On, End, Covered, Passes, Joins}
+use Rattle.tree.specs.Shape.{Shape, Place, child, after, Used, Valid, to, Up, top, down, Fits, Goes, On, here, above, End, Covered, Passes, loose}
 use Rattle.tree.specs.Rows.{on-row}
-use Rattle.tree.specs.Tally.{tally, marked}
-use Rattle.tree.specs.Tallies.{as-many-all, all-as-many}
-use Rattle.tree.specs.Promises.{Marked, Climbed, Targeted}
+use Rattle.tree.specs.Tally.{marked}
+use Rattle.tree.specs.Tallies.{same-bool}
+use Rattle.tree.specs.Promises.{Marked, Targeted}
 
 -- what the climbs of all ends give
 pub record Climbs (m : Shape) (ends : List End) (map : List ℕ) : Type 0 where
-  pub ways : (x : End) → List·Memᴰ x ends → Up m (suc (x .last)) (reverse (x .form))
+  pub ways : (x : End) → List·Memᴰ x ends → Up (loose m) (suc (x .last)) (reverse (x .form))
   pub marks : (n : ℕ) → Marked map n ↔ Covered m ends n
 
+-- a way through used nodes is one through any, and back where the nodes on it are used
+pub loosen : {m : Shape} → ((n : ℕ) → Used m n → n < 4608) → {l : ℕ} {r : List ℕ} → Up m l r → Up (loose m) l r
+loosen low top = top
+loosen low (down {n} u e x) = down (lt-ltb n 4608 (low n u)) e (loosen low x)
+
+pub tighten : {m : Shape} {l : ℕ} {r : List ℕ} → Up (loose m) l r → ((n : ℕ) → On m n l → Used m n) → Up m l r
+tighten top f = top
+tighten (down {n} u e x) f = down (f n here) e (tighten x (λ k o. f k (above o)))
+
 -- aims: where links lead; passed: what the climbs passed
-module _ (m : Shape) (ends : List End) (low : (n : ℕ) → Used m n → n < 4608) (aims passed : List ℕ) (t : Targeted m aims true) (c : Climbs m ends passed) where
-  aim-used : (y : ℕ) → Marked aims y → Used m y
-  aim-used y a = let s = t .marks refl y .0 a in t .yes refl (s .at) (s .valid) y (s .leads) .used
-
-  passed-used : (y : ℕ) → Marked passed y → Used m y
-  passed-used y a = let q = c .marks y .0 a in up-used (on-row (q .on) (c .ways (q .end) (q .among)) .up)
-
-  pub decides : Passes m ends ↔ ((tally (marked aims) 4608 ≡ tally (m .used) 4608) × (tally (marked passed) 4608 ≡ tally (m .used) 4608))
+module _ (m : Shape) (ends : List End) (aims passed : List ℕ) (t : Targeted m aims true) (c : Climbs m ends passed) where
+  pub decides : Passes m ends ↔ (((n : ℕ) → marked aims n ≡ m .used n) × ((n : ℕ) → marked passed n ≡ m .used n))
   decides = (
     (λ p. (
-      all-as-many (m .used) (marked aims) 4608 aim-used (λ y u. t .marks refl y .1 (p .comes y u)),
-      all-as-many (m .used) (marked passed) 4608 passed-used (λ y u. c .marks y .1 (p .covered y u)),
+      (λ n. same-bool (marked aims n) (m .used n) (λ a. let s = t .marks refl n .0 a in p .goes (s .at) (s .valid) (s .leads) .used) (λ u. t .marks refl n .1 (p .comes n u))),
+      (λ n. same-bool (marked passed n) (m .used n) (λ a. let q = c .marks n .0 a in up-used (on-row (q .on) (p .ways (q .end) (q .among)) .up)) (λ u. c .marks n .1 (p .covered n u))),
     )),
     (λ e. record {
-      goes = λ s v {n} q. t .yes refl s v n q;
-      comes = λ n u. t .marks refl n .0 (as-many-all (m .used) (marked aims) 4608 (λ y h a. aim-used y a) (e .0) n (low n u) u);
-      ways = c .ways;
-      covered = λ n u. c .marks n .0 (as-many-all (m .used) (marked passed) 4608 (λ y h a. passed-used y a) (e .1) n (low n u) u);
+      goes = λ s v q. go e s v q;
+      comes = λ n u. t .marks refl n .0 (e .0 n ∙ u);
+      ways = λ x i. tighten (c .ways x i) (λ k o. sym (e .1 k) ∙ c .marks k .1 (record { end = x; among = i; on = o }));
+      covered = λ n u. c .marks n .0 (e .1 n ∙ u);
     }),
   )
+    where
+      go : (((n : ℕ) → marked aims n ≡ m .used n) × ((n : ℕ) → marked passed n ≡ m .used n)) → (s : Place) → Valid m s → {n : ℕ} → to m s ≡ suc n → Fits m s n
+      go e (child l) v {n} q =
+          let g = t .yes refl (child l) v n q in
+          record { used = sym (e .0 n) ∙ t .marks refl n .1 (record { at = child l; valid = v; leads = q }); under = g .under; above = g .above }
+      go e (after k) v {n} q =
+          let g = t .yes refl (after k) v n q in
+          record { used = sym (e .0 n) ∙ t .marks refl n .1 (record { at = after k; valid = v; leads = q }); under = g .under; above = g .above }
 
--- a link that does not go well, or a climb that fails, is refused rightly
-pub targets-refuse : {m : Shape} {ends : List End} {aims : List ℕ} → Targeted m aims false → ¬ (Passes m ends)
-targets-refuse t p = t .no refl (λ s v n e. p .goes s v e)
-
-pub climb-refuse : {m : Shape} {ends : List End} {map map′ : List ℕ} (x : End) → List·Memᴰ x ends → Climbed m map map′ (x .last) (x .form) false → ¬ (Passes m ends)
-climb-refuse x i c p = c .no refl (p .ways x i)
-
--- the climbs one after another, from an empty map
-pub no-climbs : (m : Shape) (map : List ℕ) → ((n : ℕ) → ¬ (Marked map n)) → Climbs m [] map
-no-climbs m map h = record {
-  ways = λ x i. absurd (List·Memᴰ·not-nil i);
-  marks = λ n. (λ a. absurd (h n a), λ c. absurd (List·Memᴰ·not-nil (c .among)));
-}
-
-pub more-climbs : {m : Shape} {ends new : List End} {map map′ : List ℕ} {x : End} → Joins x ends new → Climbs m ends map
-    → Climbed m map map′ (x .last) (x .form) true → Climbs m new map′
-more-climbs {m} {ends} {new} {map} {map′} {x} j c k = record {
-  ways = λ y i. way y (j .of y i);
-  marks = λ n. (λ a. back n (k .marks refl n .0 a), λ q. k .marks refl n .1 (forth n (q .end) (j .of (q .end) (q .among)) (q .on)));
-}
+-- a link that does not go well is refused rightly
+pub targets-refuse : {m : Shape} {ends : List End} {aims : List ℕ} → ((n : ℕ) → Used m n → n < 4608) → Targeted m aims false → ¬ (Passes m ends)
+targets-refuse {m} low t p = t .no refl go
   where
-    way : (y : End) → (y ≡ x) ⊎ List·Memᴰ y ends → Up m (suc (y .last)) (reverse (y .form))
-    way y (inl e) = subst (λ (z : End). Up m (suc (z .last)) (reverse (z .form))) (sym e) (k .yes refl)
-    way y (inr i) = c .ways y i
-
-    back : (n : ℕ) → Marked map n ⊎ On m n (suc (x .last)) → Covered m new n
-    back n (inl a) = let q = c .marks n .0 a in record { end = q .end; among = j .kept (q .end) (q .among); on = q .on }
-    back n (inr o) = record { end = x; among = j .joined; on = o }
-
-    forth : (n : ℕ) (y : End) → (y ≡ x) ⊎ List·Memᴰ y ends → On m n (suc (y .last)) → Marked map n ⊎ On m n (suc (x .last))
-    forth n y (inl e) o = inr (subst (λ (z : End). On m n (suc (z .last))) e o)
-    forth n y (inr i) o = inl (c .marks n .1 (record { end = y; among = i; on = o }))
+    go : (s : Place) → Valid m s → Goes (loose m) s
+    go (child l) v n e = let f = p .goes (child l) v e in record { used = lt-ltb n 4608 (low n (f .used)); under = f .under; above = f .above }
+    go (after k) v n e = let f = p .goes (after k) v e in record { used = lt-ltb n 4608 (low n (f .used)); under = f .under; above = f .above }
 
 -- an empty tree passes with no ends
 pub empty-passes : (m : Shape) → ((n : ℕ) → m .used n ≡ false) → m .first 0 ≡ 0 → Passes m []

@@ -1,27 +1,26 @@
 -- What the layout gives: numbers and cells that are small, the counts of the maps' bits, the empty memory
 use mathlib.Core.Path.{_≡_, refl, sym, ap, _∙_}
-use mathlib.Core.Logic.{_↔_}
 use mathlib.Core.List.{List, []}
 use mathlib.Core.Bool.{Bool, true, false}
 use Prim.Native.Nat.{ℕ, zero, suc, _+_, _*_, _-_, _/_, _%_, _^_, _≤_, _<_}
 use native.Mathlib.Nat.{zero-div}
 use native.Mathlib.Omega.{arith}
 use native.Mathlib.Decide.{decLt}
-use lib.Dec.{eqb}
+use lib.Dec.{eqb, ltb, leb}
+use borrow.Author.Tests.{ltb-true}
 use lib.ListN.{length, getD, take, drop, length-take, length-drop, List·getD-eq-default}
 use lib.Seq.{getD-take, getD-drop}
 use Rattle.bits.specs.Packed.{bits, sum}
 use Rattle.bits.specs.Laws.{length-bits, get-bit}
 use Rattle.term.specs.Counting.{true≢false}
-use Rattle.tree.specs.Shape.{Used, uses, Live, Valid, End, Passes, forms, Short}
+use Rattle.tree.specs.Shape.{Shape, Used, uses, loose, Live, Valid, End, Passes, forms, Short}
 use Rattle.tree.specs.Rows.{row-short}
 use Rattle.tree.specs.Trie.{Bounded}
 use Rattle.tree.specs.Tally.{tally, marked}
 use Rattle.tree.specs.Tallies.{tally-same, map-tally}
 use Rattle.tree.specs.NodeCount.{node-count, Numbered, nodes-are}
 use Rattle.tree.specs.Words.{word, shape, place}
-use Rattle.tree.specs.Promises.{Targeted}
-use Rattle.tree.specs.Check.{Climbs, decides, empty-passes}
+use Rattle.tree.specs.Check.{empty-passes}
 
 -- the nodes' map and the rules'
 abbrev pub nodeMap : List ℕ → List ℕ
@@ -95,20 +94,25 @@ module _ (ws : List ℕ) (size : length ws ≡ 4681) where
   pub held-nodes : (fs : List (List ℕ)) → Numbered (shape ws) fs → sum (bits (nodeMap ws)) ≡ node-count fs
   held-nodes fs h = nodes-held ∙ sym (nodes-are (shape ws) fs h)
 
-  -- the check as the code has it: the maps and the two maps of marks have equally many bits set
-  pub decides-words : (ends : List End) (aims passed : List ℕ) → length aims ≡ 72 → length passed ≡ 72 → Targeted (shape ws) aims true
-      → Climbs (shape ws) ends passed
-      → Passes (shape ws) ends ↔ ((sum (bits aims) ≡ sum (bits (take 72 ws))) × (sum (bits passed) ≡ sum (bits (take 72 ws))))
-  decides-words ends aims passed la lp t c =
-      let d = decides (shape ws) ends used-low aims passed t c in
-      let a = marks-held aims 72 la in
-      let b = marks-held passed 72 lp in (
-        (λ p. let q = d .0 p in (a ∙ q .0 ∙ sym all-held, b ∙ q .1 ∙ sym all-held)),
-        (λ q. d .1 (sym a ∙ q .0 ∙ all-held, sym b ∙ q .1 ∙ all-held)),
-      )
-
   pub bounded : ((l : ℕ) → word ws l < 2 ^ 64) → (ends : List End) → Passes (shape ws) ends → Short (forms ends) → Bounded (shape ws)
   bounded fits ends c s = record { small = λ n u. omega (arith, fits (suc n)); shallow = row-short c s }
+
+-- a link to one of the 4,608 nodes
+abbrev pub reaches : ℕ → Bool
+reaches zero = false
+reaches (suc n) = ltb n 4608
+
+pub reaches-node : (l : ℕ) → ¬ (l ≡ 0) → leb l 4608 ≡ reaches l
+reaches-node zero h = absurd (h refl)
+reaches-node (suc n) h = refl
+
+pub loose-uses : (m : Shape) (l : ℕ) → reaches l ≡ uses (loose m) l
+loose-uses m zero = refl
+loose-uses m (suc n) = refl
+
+pub loose-low : (m : Shape) (l : ℕ) → uses (loose m) l ≡ true → (0 < l) × (l ≤ 4608)
+loose-low m zero e = absurd (true≢false e refl)
+loose-low m (suc n) e = let h = ltb-true n 4608 e in (omega arith, omega arith)
 
 -- no bit of the maps is set, and the root has no child
 pub empty-words : (ws : List ℕ) → ((k : ℕ) → k ≤ 72 → getD ws k 0 ≡ 0) → ((n : ℕ) → shape ws .used n ≡ false) × Passes (shape ws) []

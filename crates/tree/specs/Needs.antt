@@ -10,7 +10,7 @@ use Rattle.tree.specs.Shape as shapes
 use Rattle.tree.specs.Change.{Unlinks}
 use Rattle.tree.specs.Tally.{tally}
 use Rattle.tree.specs.Words.{shape, place}
-use Rattle.tree.specs.Promises.{Marked, Absent}
+use Rattle.tree.specs.Promises.{Marked, Absent, Found}
 
 -- a walk among the children of p
 pub record Ready (ws : List ℕ) (p : ℕ) : Type 0 where
@@ -29,12 +29,17 @@ pub record Room (ws : List ℕ) (p b n c : ℕ) : Type 0 where
   pub valid : Valid (shape ws) (place p b)
   pub under : shapes.owner (shape ws) (place p b) ≡ p
 
--- the cells of the form from i on are to grow under l, and there is room for them
-pub record Growing (ws : List ℕ) (l : ℕ) (form : List ℕ) (i : ℕ) : Type 0 where
+-- the cell i of the form, where there is one, has its place among the children of l behind b
+abbrev pub Next : Shape → List ℕ → ℕ → ℕ → ℕ → Type 0
+Next m form l i b = i < length form → Found m l b (getD form i 0)
+
+-- the cells of the form from i on are to grow under l, the first of them behind b, and there is room for them
+pub record Growing (ws : List ℕ) (l b : ℕ) (form : List ℕ) (i : ℕ) : Type 0 where
   pub size : length ws ≡ 4681
   pub tree : Tree (shape ws)
   pub live : Live (shape ws) l
   pub absent : i < length form → Absent (shape ws) l (getD form i 0)
+  pub found : Next (shape ws) form l i b
   pub room : tally (shape ws .used) 4096 + length form ≤ 4096 + i
   pub within : i ≤ length form
 

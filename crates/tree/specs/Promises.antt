@@ -5,7 +5,8 @@ use mathlib.Core.List.{List, reverse}
 use mathlib.Core.Bool.{Bool, true, false}
 use Prim.Native.Nat.{ℕ, suc, _+_, _-_, _≤_, _<_}
 use lib.ListN.{length, getD, take, drop}
-use Rattle.tree.specs.Shape.{Shape, Place, Used, Live, Valid, to, owner, floor, Suits, Goes, Source, Up, On, Tree}
+use Rattle.term.specs.Cells.{blankOf, numberOf}
+use Rattle.tree.specs.Shape.{Shape, Place, Used, Live, Valid, to, owner, floor, Suits, Goes, Source, Up, On, Tree, loose}
 use Rattle.tree.specs.Change.{Grown, Links, Sorted}
 use Rattle.tree.specs.Tally.{tally, marked}
 use Rattle.tree.specs.Words.{shape, place}
@@ -61,11 +62,15 @@ pub record Hung (m m′ : Shape) (p r number : ℕ) : Type 0 where
   pub sorted : Sorted m at number
   pub links : Links m m′ at number (4096 + r)
 
--- Going up from the node `last` reads the form backwards and ends at the root; then the nodes on the way are marked
-pub record Climbed (m : Shape) (map map′ : List ℕ) (last : ℕ) (form : List ℕ) (r : Bool) : Type 0 where
-  pub yes : r ≡ true → Up m (suc last) (reverse form)
-  pub no : r ≡ false → ¬ (Up m (suc last) (reverse form))
-  pub marks : r ≡ true → (n : ℕ) → Marked map′ n ↔ (Marked map n ⊎ On m n (suc last))
+-- the cells as a form has them
+abbrev pub formed : List ℕ → List ℕ
+formed cells = mathlib.Core.List.map (λ c. numberOf (blankOf c)) cells
+
+-- Going up from the link l, whatever nodes are used, reads the form backwards and ends at the root; then the nodes on the way are marked
+pub record Climbed (m : Shape) (map map′ : List ℕ) (l : ℕ) (form : List ℕ) (r : Bool) : Type 0 where
+  pub yes : r ≡ true → Up (loose m) l (reverse form)
+  pub no : r ≡ false → ¬ (Up (loose m) l (reverse form))
+  pub marks : r ≡ true → (n : ℕ) → Marked map′ n ↔ (Marked map n ⊎ On m n l)
 
 -- The link x is none, or that of a child of p with a cell of at least `low`, which is then marked
 pub record Visited (m : Shape) (map map′ : List ℕ) (x p low : ℕ) (r : Bool) : Type 0 where
@@ -73,8 +78,8 @@ pub record Visited (m : Shape) (map map′ : List ℕ) (x p low : ℕ) (r : Bool
   pub no : r ≡ false → ¬ ((n : ℕ) → x ≡ suc n → Suits m p low n)
   pub marks : r ≡ true → (y : ℕ) → Marked map′ y ↔ (Marked map y ⊎ (x ≡ suc y))
 
--- Every link goes well; then the nodes that links lead to are marked
+-- Every link goes well, whatever nodes are used; then the nodes that links lead to are marked
 pub record Targeted (m : Shape) (map : List ℕ) (r : Bool) : Type 0 where
-  pub yes : r ≡ true → (s : Place) → Valid m s → Goes m s
-  pub no : r ≡ false → ¬ ((s : Place) → Valid m s → Goes m s)
+  pub yes : r ≡ true → (s : Place) → Valid m s → Goes (loose m) s
+  pub no : r ≡ false → ¬ ((s : Place) → Valid m s → Goes (loose m) s)
   pub marks : r ≡ true → (y : ℕ) → Marked map y ↔ Source m y

@@ -5,6 +5,7 @@ use mathlib.Core.Logic.{_⊎_}
 use mathlib.Core.List.{List, [], _∷_, _++_, map, reverse, List·Memᴰ}
 use mathlib.Core.Bool.{Bool, true, false}
 use Prim.Native.Nat.{ℕ, zero, suc, _≤_}
+use lib.Dec.{ltb}
 use lib.ListN.{length}
 
 pub record Shape : Type 0 where
@@ -85,6 +86,10 @@ module _ (m : Shape) where
 abbrev pub uses : Shape → ℕ → Bool
 uses m zero = false
 uses m (suc n) = m .used n
+
+-- the same links, with each of the 4,608 nodes in use: the check follows links first and compares the maps last
+abbrev pub loose : Shape → Shape
+loose m = record { used = λ n. ltb n 4608; cell = m .cell; parent = m .parent; next = m .next; first = m .first }
 
 -- An end: the last node of a form, and the form as cell numbers
 pub record End : Type 0 where

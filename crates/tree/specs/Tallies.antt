@@ -9,7 +9,7 @@ use native.Mathlib.Decide.{ℕ-discrete}
 use lib.Dec.{eqb}
 use native.Mathlib.Nat.{zero-div}
 use lib.ListN.{length, getD, set, replicate}
-use lib.Seq.{getD-set-same, getD-set-other}
+use lib.Seq.{ext-getD, getD-set-same, getD-set-other}
 use Rattle.bits.specs.Packed.{bits, sum}
 use Rattle.bits.specs.Laws.{length-bits, bit-low, get-bit}
 use Rattle.term.specs.Beginnings.{putIf, Distinct}
@@ -120,7 +120,7 @@ as-many-all u v (suc k) h e n l =
     go (yes q) ih s x = ap v q ∙ bit-same (u k) (v k) s (ap u (sym q) ∙ x)
     go (no q) ih s x = ih (omega arith) x
 
-same-bool : (a b : Bool) → (a ≡ true → b ≡ true) → (b ≡ true → a ≡ true) → a ≡ b
+pub same-bool : (a b : Bool) → (a ≡ true → b ≡ true) → (b ≡ true → a ≡ true) → a ≡ b
 same-bool true true f g = refl
 same-bool true false f g = sym (f refl)
 same-bool false true f g = g refl
@@ -147,6 +147,12 @@ low-bit : (x : ℕ) → x < 2 → bit (eqb x 1) ≡ x
 low-bit zero h = refl
 low-bit (suc zero) h = refl
 low-bit (suc (suc x)) h = absurd (omega arith)
+
+-- two maps with the same marks have the same bits
+pub same-bits : (a b : List ℕ) → length a ≡ length b → ((n : ℕ) → marked a n ≡ marked b n) → bits a ≡ bits b
+same-bits a b l e =
+    ext-getD 0 (bits a) (bits b) (omega (arith, length-bits a, length-bits b))
+    (λ k h. sym (low-bit (getD (bits a) k 0) (bit-low a k)) ∙ ap bit (e k) ∙ low-bit (getD (bits b) k 0) (bit-low b k))
 
 sum-tally : (l : List ℕ) → ((n : ℕ) → getD l n 0 < 2) → sum l ≡ tally (λ n. eqb (getD l n 0) 1) (length l)
 unfolding sum tally

@@ -11,14 +11,17 @@
 // by cell.
 ghost use mathlib.Core.Path.{_≡_};
 ghost use mathlib.Core.List.{reverse};
-ghost use Prim.Native.Nat.{ℕ, suc, _<_, _≤_};
+ghost use mathlib.Core.Bool.{true, false};
+ghost use Prim.Native.Nat.{ℕ, suc, _+_, _<_, _≤_};
 ghost use lib.ListN.{length};
-ghost use Rattle.tree.specs.Shape.{Used, uses, to};
+ghost use Rattle.tree.specs.Shape.{Used, loose, to};
+ghost use Rattle.tree.specs.Tally.{tally};
 ghost use Rattle.tree.specs.Change.{Links, Grown, Trimmed};
 ghost use Rattle.tree.specs.Effects.{Puts};
 ghost use Rattle.tree.specs.Words.{cellOf, parentOf, firstOf, nextOf, Node, shape, place};
-ghost use Rattle.tree.specs.Promises.{Sound, Marked, Found, Descended, Planted, Hangable, Hung, Climbed, Visited, Targeted};
-ghost use Rattle.tree.specs.Needs.{Ready, Room, Growing, Leaf, Unlinked, Noded};
+ghost use Rattle.tree.specs.Promises.{Sound, Marked, Found, Descended, Planted, Hangable, Hung, Climbed, formed, Visited, Targeted};
+ghost use Rattle.tree.specs.Limits.{reaches};
+ghost use Rattle.tree.specs.Needs.{Ready, Room, Next, Growing, Leaf, Unlinked, Noded};
 
 // ---- the word of a link
 
@@ -125,15 +128,18 @@ fn find(m: &[u64], p: usize, c: u64) -> usize
 
 // ---- adding
 
-// How far the nodes of a form exist: the link of the last, and how many there are.
+// How far the nodes of a form exist: the link of the last, and how many there are; and the child of the last behind which the
+// next cell has its place, or 0, so that no one looks for it again.
 pub struct Down {
     pub link: usize,
     pub depth: usize,
+    pub behind: usize,
 }
 
 pub fn descend(m: &[u64], form: &[u16]) -> Down
     requires { ⌜ Sound (now m) ⌝ }
     ensures { λ r. ⌜ Descended (shape (now (m .entry))) (now (form .entry)) (r .link) (r .depth) ⌝ }
+    ensures next { λ r. ⌜ Next (shape (now (m .entry))) (now (form .entry)) (r .link) (r .depth) (r .behind) ⌝ }
 {
     let mut l: usize = 0;
     let mut i: usize = 0;
@@ -142,15 +148,27 @@ pub fn descend(m: &[u64], form: &[u16]) -> Down
         let b = find(m, l, c);
         let x = get_link(m, l, b);
         if x == 0 {
-            return Down { link: l, depth: i };
+            return Down {
+                link: l,
+                depth: i,
+                behind: b,
+            };
         }
         if cell_of(m[72 + x]) != c {
-            return Down { link: l, depth: i };
+            return Down {
+                link: l,
+                depth: i,
+                behind: b,
+            };
         }
         l = x;
         i += 1;
     }
-    Down { link: l, depth: i }
+    Down {
+        link: l,
+        depth: i,
+        behind: 0,
+    }
 }
 
 // The free node n comes in with the cell c at a place of p.
@@ -164,22 +182,43 @@ fn link(m: &mut [u64], p: usize, b: usize, n: usize, c: u64)
     bits::mark(&mut m[0..72], n);
 }
 
-// A chain of new nodes with the cells of a form, the first under l: the link of the last.
-fn grow(m: &mut [u64], l: usize, form: &[u16]) -> usize
-    requires { ⌜ Growing (now m) l (now form) 0 ⌝ }
+// A chain of new nodes with the cells of a form, the first under l, behind its child b: the link of the last. A new node has no
+// child, so the place of the next one is known; and the words of the map before `full` have no free node.
+fn grow(m: &mut [u64], l: usize, b: usize, form: &[u16]) -> usize
+    requires { ⌜ Growing (now m) l b (now form) 0 ⌝ }
     ensures { λ r. ⌜ Grown (shape (now (m .entry))) l (reverse (now (form .entry))) (shape (now (m .exit))) r ⌝ }
 {
     let mut at = l;
+    let mut behind = b;
+    let mut full: usize = 0;
     let mut i: usize = 0;
     while i < form.len() {
         let c = wide(form[i]);
-        let b = find(m, at, c);
-        let n = bits::lowest_free(&m[0..64]);
-        link(m, at, b, n, c);
+        let n = bits::lowest_free_from(&m[0..64], full);
+        link(m, at, behind, n, c);
         at = n + 1;
+        behind = 0;
+        full = n / 64;
         i += 1;
     }
     at
+}
+
+// Are as many nodes free? Always the lowest free node is taken, so the last word of the map is nearly always 0: then 64 are, and
+// the others need no count.
+fn has_nodes(m: &[u64], missing: usize) -> bool
+    requires { ⌜ (length (now m) ≡ 4681) × (missing ≤ 32) ⌝ }
+    ensures yes { λ r. ⌜ (r ≡ true → tally (shape (now (m .entry)) .used) 4096 + missing ≤ 4096) ⌝ }
+    ensures no { λ r. ⌜ (r ≡ false → 4096 < tally (shape (now (m .entry)) .used) 4096 + missing) ⌝ }
+{
+    if m[63] == 0 {
+        return true;
+    }
+    let held = bits::count(&m[0..64]);
+    if held + missing > 4096 {
+        return false;
+    }
+    true
 }
 
 // The nodes of a form that are missing are linked in: the link of its last node, or 0 where there would be more than
@@ -193,11 +232,11 @@ pub fn plant(m: &mut [u64], form: &[u16]) -> usize
     let d = descend(m, form);
     let at = d.link;
     let i = d.depth;
-    let held = bits::count(&m[0..64]);
-    if held + (form.len() - i) > 4096 {
+    let b = d.behind;
+    if !has_nodes(m, form.len() - i) {
         return 0;
     }
-    grow(m, at, &form[i..])
+    grow(m, at, b, &form[i..])
 }
 
 // The rule r, with its number, hangs below the last node of its form, whose link is p.
@@ -242,35 +281,30 @@ pub fn trim(m: &mut [u64], last: usize)
 
 // ---- the check
 
-// Is the link that of a used node?
-fn is_used(m: &[u64], l: usize) -> bool
-    requires { ⌜ length (now m) ≡ 4681 ⌝ }
-    ensures { λ r. ⌜ r ≡ uses (shape (now (m .entry))) l ⌝ }
+// Is the link that of a node? Whether the node is used is asked once for all, when the marks are compared with the maps.
+fn is_node(l: usize) -> bool
+    ensures { λ r. ⌜ r ≡ reaches l ⌝ }
 {
     if l == 0 {
         return false;
     }
-    if l > 4608 {
-        return false;
-    }
-    bits::is_marked(&m[0..72], l - 1)
+    l <= 4608
 }
 
-// Does going up from the node `last` read the form backwards and end at the root? Marks the nodes on the way.
-pub fn climb(m: &[u64], map: &mut [u64], last: usize, form: &[u16]) -> bool
+// Does going up from the link `from` read the form of the cells backwards and end at the root? Marks the nodes on the way.
+pub fn climb(m: &[u64], map: &mut [u64], from: usize, cells: &[u16]) -> bool
     requires { ⌜ length (now m) ≡ 4681 ⌝ }
     requires { ⌜ length (now map) ≡ 72 ⌝ }
-    requires { ⌜ last < 65536 ⌝ }
-    ensures { λ r. ⌜ Climbed (shape (now (m .entry))) (now (map .entry)) (now (map .exit)) last (now (form .entry)) r ⌝ }
+    ensures { λ r. ⌜ Climbed (shape (now (m .entry))) (now (map .entry)) (now (map .exit)) from (formed (now (cells .entry))) r ⌝ }
 {
-    let mut l = last + 1;
-    let mut i: usize = form.len();
+    let mut l = from;
+    let mut i: usize = cells.len();
     while i != 0 {
-        if !is_used(m, l) {
+        if !is_node(l) {
             return false;
         }
         let w = m[72 + l];
-        if cell_of(w) != wide(form[i - 1]) {
+        if cell_of(w) != wide(term::blank(cells[i - 1])) {
             return false;
         }
         bits::mark(map, l - 1);
@@ -284,12 +318,12 @@ pub fn climb(m: &[u64], map: &mut [u64], last: usize, form: &[u16]) -> bool
 fn visit(m: &[u64], map: &mut [u64], x: usize, p: usize, low: u64) -> bool
     requires { ⌜ length (now m) ≡ 4681 ⌝ }
     requires { ⌜ length (now map) ≡ 72 ⌝ }
-    ensures { λ r. ⌜ Visited (shape (now (m .entry))) (now (map .entry)) (now (map .exit)) x p low r ⌝ }
+    ensures { λ r. ⌜ Visited (loose (shape (now (m .entry)))) (now (map .entry)) (now (map .exit)) x p low r ⌝ }
 {
     if x == 0 {
         return true;
     }
-    if !is_used(m, x) {
+    if !is_node(x) {
         return false;
     }
     let w = m[72 + x];
@@ -308,7 +342,7 @@ fn visit_node(m: &[u64], map: &mut [u64], n: usize) -> bool
     requires { ⌜ length (now m) ≡ 4681 ⌝ }
     requires { ⌜ length (now map) ≡ 72 ⌝ }
     requires { ⌜ n < 4608 ⌝ }
-    ensures { λ r. ⌜ Noded (shape (now (m .entry))) (now (map .entry)) (now (map .exit)) n r ⌝ }
+    ensures { λ r. ⌜ Noded (loose (shape (now (m .entry)))) (now (map .entry)) (now (map .exit)) n r ⌝ }
 {
     let w = m[73 + n];
     if !visit(m, map, first_of(w) as usize, n + 1, 0) {
@@ -333,12 +367,16 @@ pub fn targets(m: &[u64], map: &mut [u64]) -> bool
     if !visit(m, map, first_of(m[72]) as usize, 0, 0) {
         return false;
     }
-    let mut n = bits::next_marked(&m[0..72], 0);
+    let first = bits::first_spot(&m[0..72], 0);
+    let mut n = first.at;
+    let mut rest = first.rest;
     while n < 4608 {
         if !visit_node(m, map, n) {
             return false;
         }
-        n = bits::next_marked(&m[0..72], n + 1);
+        let next = bits::next_spot(&m[0..72], n, rest);
+        n = next.at;
+        rest = next.rest;
     }
     true
 }

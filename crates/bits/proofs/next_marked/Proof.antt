@@ -1,52 +1,65 @@
--- No bit from `from` to before n is set, and n goes on to the next word
-use Prim.Native.Nat.{_-_, _*_, _/_, _%_, _≤_}
+-- The rest of the first word is looked at, then the words that are zero are passed, and the next one has the bit.
+use Prim.Native.Nat.{_+_, _-_, _*_, _/_, _%_, _≤_, _<_}
 use native.Mathlib.Omega.{arith}
-use lib.ListN.{length}
+use lib.Count.{leadingZeros, leading-le}
+use lib.ListN.{length, getD}
 use Rattle.bits.specs.Packed.{bits, Skipped}
-use Rattle.bits.proofs.Searching.{found, passed, none-found}
+use Rattle.bits.proofs.Searching.{found, passed, none-found, in-word, no-word}
 use borrow.Author.Needs.{needs}
 use Rattle.bits.proofs.next_marked.Statement.{statement}
 use Rattle.bits.proofs.next_marked.Tie as tie
 
-abbrev Inv-loop : tie.InvT-loop
-Inv-loop map from n₀ n = (from ≤ n) × (n ≤ 64 * length map) × Skipped 1 (bits map) from n
+returns : tie.Need-returns
+returns c = let s = c .before .before in none-found 1 (s .args .map .now) (s .args .from) (s .args .from) (omega arith) (let h = c .if1 .taken in let g = s .pre .1 in omega arith) (λ k a b. absurd (omega arith))
 
-abbrev μ-loop : tie.MeasureT-loop
-μ-loop map from n₀ n = 64 * length map - n
-
-loop-holds : tie.Need-loop-holds Inv-loop μ-loop
-loop-holds c = (omega arith, omega arith, λ k a b. absurd (omega arith))
-
-returns : tie.Need-returns Inv-loop μ-loop
-returns c =
-    let first-one = c .before .first-one in
-    let l = c .before .before .before .before in
-    let a = l .before .before .args in
-    let n = l .loop .n in
-    found 1 (a .map .now) (a .from) n (n / 64) (n % 64) (first-one .result) (omega arith) (omega arith) (l .loop .inv .0)
-    (omega (arith, c .before .before .before .loop-test .taken)) (l .loop .inv .2) (first-one .ensures) (c .if1 .taken)
-
-loop-again : tie.Need-loop-again Inv-loop μ-loop
-loop-again c =
-    let loop-test = c .before .before .before .loop-test in
-    let first-one = c .before .first-one in
-    let l = c .before .before .before .before in
-    let a = l .before .before .args in
-    let n = l .loop .n in (
-      omega arith,
-      omega (arith, loop-test .taken),
-      passed 1 (a .map .now) (a .from) n (n / 64) (n % 64) (first-one .result) (omega arith) (omega arith) (l .loop .inv .0) (omega (arith, loop-test .taken))
-          (l .loop .inv .2) (first-one .ensures) (c .if1 .left),
-    )
-
-returns-2 : tie.Need-returns-2 Inv-loop μ-loop
+returns-2 : tie.Need-returns-2
 returns-2 c =
-    let s = c .before .before .before in
-    let l = c .before .loop in
-    none-found 1 (s .args .map .now) (s .args .from) (l .n) (l .inv .0) (omega arith) (l .inv .2)
+    let s = c .before .before .before .before .before in
+    let n = s .args .from in
+    found 1 (s .args .map .now) n n (n / 64) (n % 64) (c .before .first-one .result) (omega arith) (omega arith) (omega arith) (let h = c .before .before .before .if1 .left in omega arith) (λ k a b. absurd (omega arith)) (c .before .first-one .ensures) (c .if2 .taken)
+
+-- the first word has none
+gone : (e : tie.Else2) → Skipped 1 (bits (e .before .before .before .before .before .args .map .now)) (e .before .before .before .before .before .args .from) (e .before .before .before .before .before .args .from / 64 * 64 + 64)
+gone e =
+    let s = e .before .before .before .before .before in
+    let n = s .args .from in
+    passed 1 (s .args .map .now) n n (n / 64) (n % 64) (e .before .first-one .result) (omega arith) (omega arith) (omega arith) (let h = e .before .before .before .if1 .left in omega arith) (λ k a b. absurd (omega arith)) (e .before .first-one .ensures) (e .if2 .left)
+
+returns-3 : tie.Need-returns-3
+returns-3 c =
+    let s = c .before .before .before .before .before .before .before .before in
+    let n = s .args .from in
+    let i = c .before .before .next-word .result in
+    in-word (s .args .map .now) n (n / 64) i (gone (c .before .before .before)) (c .before .before .next-word .ensures) (omega arith) (c .before .if3 .taken) (c .shared-slice-known3 .given i .fits)
+
+returns-4 : tie.Need-returns-4
+returns-4 c =
+    let s = c .before .before .before .before .before .before .before in
+    let n = s .args .from in
+    no-word (s .args .map .now) n (n / 64) (c .before .next-word .result) (gone (c .before .before)) (c .before .next-word .ensures) (omega arith) (c .if3 .left)
+
+few : (c : tie.After-shared-slice-known3) → leadingZeros 64 (getD (c .before .before .before .before .before .before .before .before .args .map .now) (c .before .before .next-word .result) 0) ≤ 64
+few c = leading-le 64 (getD (c .before .before .before .before .before .before .before .before .args .map .now) (c .before .before .next-word .result) 0)
 
 pub next-marked-spec : {M : Type 1} → statement M
 next-marked-spec =
     tie.close
-    (tie.spec Inv-loop μ-loop loop-holds (λ c. search needs) (λ c. search needs) (λ c. search needs) (λ c κs. search needs) (λ c. search needs)
-    (λ c. search needs) returns (λ c. search needs) (λ c. search needs) (λ c. search needs) loop-again returns-2)
+    (tie.spec
+    (λ c. search needs)
+    returns
+    (λ c. search needs)
+    (λ c. search needs)
+    (λ c κs. search needs)
+    (λ c. search needs)
+    (λ c. search needs)
+    returns-2
+    (λ c. search needs)
+    (λ c κs. let h = c .before .before .before .if1 .left in omega arith)
+    (λ c. search needs)
+    (λ c. search needs)
+    (λ c. search needs)
+    (λ c. omega (arith, few c))
+    (λ c. let h = c .before .if3 .taken in omega (arith, few c))
+    returns-3
+    (λ c. search needs)
+    returns-4)

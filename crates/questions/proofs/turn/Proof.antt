@@ -1,51 +1,75 @@
--- Each way out of a turn is one of the four that its promise names.
+-- Each way out of a turn is one of the four that its promise names, at the point to which it has skipped.
 use borrow.Author.Needs.{needs}
-use mathlib.Core.Path.{refl, sym, ap, _∙_, subst}
+use mathlib.Core.Path.{_≡_, refl, sym, ap, _∙_, subst}
 use mathlib.Core.Logic.{inl, inr}
-use Prim.Native.Nat.{ℕ, _*_, _<_}
+use Prim.Native.Nat.{ℕ, _*_, _≤_, _<_}
+use native.Mathlib.Omega.{arith}
 use lib.ListN.{length, set}
 use Rattle.bits.specs.Packed.{bits}
-use Rattle.questions.proofs.Trying.{lists-it, goes-by}
+use Rattle.questions.specs.declared.Point.{Point}
+use Rattle.questions.specs.Promises.{Skips, Tryable, moved}
+use Rattle.questions.proofs.Trying.{placed-at, lists-it, goes-by}
 use Rattle.questions.proofs.turn.Statement.{statement}
 use Rattle.questions.proofs.turn.Tie as tie
 
+module _ (k : tie.After-seek) where
+  abbrev to : Point
+  to = moved (k .before .before .before .before .args .p) (k .seek .result)
+
+  skips : Skips (k .before .before .before .before .args .fills-question) (k .before .before .before .before .args .fills-rule) (k .before .before .before .before .args .m .now) (k .before .before .before .before .args .question .now) (k .before .before .before .before .args .p) to
+  skips = k .seek .ensures
+
+  tryable : Tryable (k .before .before .before .before .args .fills-question) (k .before .before .before .before .args .fills-rule) (k .before .before .before .before .args .m .now) (k .before .before .before .before .args .question .now) (k .before .before .before .before .args .marks .now) to
+  tryable = k .before .before .before .before .pre .each to skips
+
+  size : length (k .before .before .before .before .args .m .now) ≡ 10313
+  size = k .before .before .before .before .pre .threaded .passing .size
+
 returns : tie.Need-returns
-returns c = inl (record { none = c .if1 .taken; same = refl; less = refl })
+returns c = record { to = to (c .before); skips = skips (c .before); tries = inl (record { none = c .if1 .taken; same = refl; less = refl }) }
 
 mark-requires : tie.Need-mark-requires
 mark-requires c κs =
-    let d = c .before .before .before in
-    let s = d .before .before .before .before .before .before in
-    subst (λ (x : ℕ). x < 64 * length (s .args .marks .now)) (sym (c .cell-of .ensures)) (s .pre .number (d .before .before .if1 .left) (sym (d .decide .ensures .lists-is) ∙ c .before .before .if2 .taken))
+    let k = c .before .before .before .before .before .before in
+    subst (λ (x : ℕ). x < 64 * length (k .before .before .before .before .args .marks .now)) (sym (c .cell-of .ensures)) (tryable k .number (c .before .before .before .before .before .if1 .left) (sym (c .before .before .before .decide .ensures .lists-is) ∙ c .before .before .if2 .taken))
 
 returns-2 : tie.Need-returns-2
 returns-2 c =
-    let o = c .before .before .before in
-    let d = o .before .before .before .before in
-    let s = d .before .before .before .before .before .before .args in
-    inr (inl (lists-it (s .fills-question) (s .fills-rule) (s .m .now) (s .question .now) (s .marks .now) (s .p) (s .depth) (d .before .before .if1 .left) _ _ _ _ (d .decide .ensures) _ (c .place-points .ensures) (o .before .before .before .if2 .taken) _
-    (o .mark .kept .0) (o .mark .ensures ∙ ap (λ (x : ℕ). set (bits (s .marks .now)) x 1) (o .before .cell-of .ensures))))
+    let k = c .before .before .before .before .before .before .before .before .before .before in
+    let s = k .before .before .before .before .args in
+    let d = c .before .before .before .before .before .before .before in
+    record {
+      to = to k;
+      skips = skips k;
+      tries = inr (inl (lists-it (s .fills-question) (s .fills-rule) (s .m .now) (s .question .now) (s .marks .now) (to k) (s .depth) (c .before .before .before .before .before .before .before .before .before .if1 .left) _ _ _ _ (d .decide .ensures) _ (placed-at _ (s .p) (k .seek .result) _ _ _ _ _ (c .place-points .ensures)) (c .before .before .before .before .before .before .if2 .taken) _
+          (c .before .before .before .mark .kept .0) (c .before .before .before .mark .ensures ∙ ap (λ (x : ℕ). set (bits (s .marks .now)) x 1) (c .before .before .before .before .cell-of .ensures))));
+    }
 
 returns-3 : tie.Need-returns-3
 returns-3 c =
-    let d = c .before .before in
-    let s = d .before .before .before .before .before .before .args in
-    inr (inr (goes-by (s .fills-question) (s .fills-rule) (s .m .now) (s .question .now) (s .marks .now) (s .p) (s .depth) (d .before .before .if1 .left) _ _ _ _ (d .decide .ensures) _ (c .place-points2 .ensures) (c .before .if2 .left)))
+    let k = c .before .before .before .before .before in
+    let s = k .before .before .before .before .args in
+    record {
+      to = to k;
+      skips = skips k;
+      tries = inr (inr (goes-by (s .fills-question) (s .fills-rule) (s .m .now) (s .question .now) (s .marks .now) (to k) (s .depth) (c .before .before .before .before .if1 .left) _ _ _ _ (c .before .before .decide .ensures) _ (placed-at _ (s .p) (k .seek .result) _ _ _ _ _ (c .place-points2 .ensures)) (c .before .if2 .left)));
+    }
 
 pub turn-spec : {M : Type 1} → statement M
 turn-spec =
     tie.close
     (tie.spec
-    (λ c. search needs)
+    (λ c κs. c .before .before .before .pre .threaded)
+    (λ c. let h = c .before .before .before .before .before .pre .some in omega arith)
     returns
-    (λ c. search needs)
-    (λ c. search needs)
-    (λ c. search needs)
-    (λ c κs. search needs)
+    (λ c. let h = tryable (c .before) .within in omega arith)
+    (λ c. let h = tryable (c .before) .within in omega arith)
+    (λ c. let h = tryable (c .before .before) .within in omega (arith, size (c .before .before)))
+    (λ c κs. c .before .before .before .before .before .before .pre .stands)
     (λ c κs. search needs)
     mark-requires
-    (λ c κs. search needs)
+    (λ c κs. c .before .before .before .before .before .before .before .before .before .before .before .before .before .pre .deep)
     (λ c. search needs)
     returns-2
-    (λ c κs. search needs)
+    (λ c κs. c .before .before .before .before .before .before .before .before .pre .deep)
     returns-3)

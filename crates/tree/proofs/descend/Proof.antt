@@ -4,7 +4,7 @@ use Prim.Native.Nat.{_-_}
 use lib.ListN.{length}
 use Rattle.tree.specs.Words.{shape}
 use Rattle.tree.proofs.Stores.{at-fits, at-bytes, at-in}
-use Rattle.tree.proofs.Walking.{Descending, descend-start, descend-ready, descend-low, next-low, descend-none, descend-other, descend-on, descend-all}
+use Rattle.tree.proofs.Walking.{Descending, descend-start, descend-ready, descend-low, next-low, descend-none, descend-other, descend-on, descend-all, descend-next, next-none}
 use borrow.Author.Needs.{needs}
 use Rattle.tree.proofs.descend.Statement.{statement}
 use Rattle.tree.proofs.descend.Tie as tie
@@ -44,9 +44,12 @@ returns c =
     let wide = c₁ .wide in
     let loop-test = c₁ .before .before .loop-test in
     let l = c₁ .before .before .before .loop in
-    let s = c₁ .before .before .before .before .before .before in
-    descend-none (s .args .m .now) (s .args .form .now) (s .pre) (l .l) (l .i) (l .inv) (loop-test .taken) (find .result) (wide .result) (get-link .result)
-    (wide .ensures) (find .ensures) (get-link .ensures) (c .if1 .taken)
+    let s = c₁ .before .before .before .before .before .before in (
+      descend-none (s .args .m .now) (s .args .form .now) (s .pre) (l .l) (l .i) (l .inv) (loop-test .taken) (find .result) (wide .result) (get-link .result)
+          (wide .ensures) (find .ensures) (get-link .ensures) (c .if1 .taken),
+      descend-next (s .args .m .now) (s .args .form .now) (s .pre) (l .l) (l .i) (l .inv) (loop-test .taken) (find .result) (wide .result) (get-link .result)
+          (wide .ensures) (find .ensures),
+    )
 
 add-cell-of : tie.Need-add-cell-of Inv-loop μ-loop
 add-cell-of c =
@@ -98,9 +101,12 @@ returns-2 c =
     let c₂ = c₁ .before .before .before .before in
     let loop-test = c₂ .loop-test in
     let l = c₂ .before .loop in
-    let s = c₂ .before .before .before .before in
-    descend-other (s .args .m .now) (s .args .form .now) (s .pre) (l .l) (l .i) (l .inv) (loop-test .taken) (find .result) (wide .result) (get-link .result)
-    (wide .ensures) (find .ensures) (get-link .ensures) (cell-of .result) (cell-of .ensures) (c .if2 .taken)
+    let s = c₂ .before .before .before .before in (
+      descend-other (s .args .m .now) (s .args .form .now) (s .pre) (l .l) (l .i) (l .inv) (loop-test .taken) (find .result) (wide .result) (get-link .result)
+          (wide .ensures) (find .ensures) (get-link .ensures) (cell-of .result) (cell-of .ensures) (c .if2 .taken),
+      descend-next (s .args .m .now) (s .args .form .now) (s .pre) (l .l) (l .i) (l .inv) (loop-test .taken) (find .result) (wide .result) (get-link .result)
+          (wide .ensures) (find .ensures),
+    )
 
 loop-again : tie.Need-loop-again Inv-loop μ-loop
 loop-again c =
@@ -117,7 +123,10 @@ loop-again c =
     (wide .ensures) (find .ensures) (get-link .ensures) (cell-of .result) (c .before .before .before .if1 .left) (cell-of .ensures) (c .if2 .left)
 
 returns-3 : tie.Need-returns-3 Inv-loop μ-loop
-returns-3 c = descend-all (c .loop-test .left) (c .before .loop .inv)
+returns-3 c =
+    let l = c .before .loop in
+    let s = c .before .before .before .before in
+    (descend-all (c .loop-test .left) (l .inv), next-none (shape (s .args .m .now)) (s .args .form .now) (l .l) (l .i) 0 (c .loop-test .left))
 
 pub descend-spec : {M : Type 1} → statement M
 descend-spec =

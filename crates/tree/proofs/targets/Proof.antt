@@ -1,8 +1,9 @@
 -- All places of the root and of the nodes before n go well and are marked, and there is no used node between two set bits
 use mathlib.Core.Path.{_≡_, sym, _∙_}
-use Prim.Native.Nat.{_-_, _+_}
+use Rattle.bits.specs.Packed.{restOf}
+use Prim.Native.Nat.{_-_, _+_, _<_}
 use native.Mathlib.Omega.{arith}
-use lib.ListN.{length, length-take}
+use lib.ListN.{length, take, length-take}
 use borrow.Author.Tests.{not-true, not-false}
 use Rattle.tree.proofs.Visiting.{Walk, walk-to, root-bad, root-good, visit-bad, visit-on, target-end}
 use borrow.Author.Needs.{needs}
@@ -10,10 +11,10 @@ use Rattle.tree.proofs.targets.Statement.{statement}
 use Rattle.tree.proofs.targets.Tie as tie
 
 abbrev Inv-loop : tie.InvT-loop
-Inv-loop m map₀ n₀ map n = Walk m map n
+Inv-loop m map₀ n₀ rest₀ map n rest = Walk m map n × (n < 4608 → rest ≡ restOf (take 72 m) n)
 
 abbrev μ-loop : tie.MeasureT-loop
-μ-loop m map₀ n₀ map n = 4608 - n
+μ-loop m map₀ n₀ rest₀ map n rest = 4608 - n
 
 returns : tie.Need-returns Inv-loop μ-loop
 returns c =
@@ -24,8 +25,8 @@ returns c =
     root-bad (s .args .m .now) (s .args .map .now) (visit .last .1 .0) (first-of .result) (first-of .ensures) (visit .result) (visit .ensures)
     (not-true (visit .result) (c .if1 .taken))
 
-next-marked-requires : tie.Need-next-marked-requires Inv-loop μ-loop
-next-marked-requires c κs = (rw length-take (omega arith), omega arith)
+first-spot-requires : tie.Need-first-spot-requires Inv-loop μ-loop
+first-spot-requires c κs = (rw length-take (omega arith), omega arith)
 
 loop-holds : tie.Need-loop-holds Inv-loop μ-loop
 loop-holds c =
@@ -38,12 +39,13 @@ loop-holds c =
     let ws = s .args .m .now in
     let map = visit .last .1 .0 in
     let t = root-good ws (s .args .map .now) map (first-of .result) (first-of .ensures) (visit .result) (visit .ensures) yes (s .pre .1 .1) in
-    walk-to ws map 0 (c .next-marked .result) (s .pre .0) (e ∙ s .pre .1 .0) (c .next-marked .ensures) t
+    let q = c .first-spot .ensures in
+    (walk-to ws map 0 _ (s .pre .0) (e ∙ s .pre .1 .0) (q .first) t, λ h. q .left (rw length-take (omega (arith, s .pre .0))))
 
 visit-node-requires : tie.Need-visit-node-requires Inv-loop μ-loop
 visit-node-requires c κs =
     let s = c .before .before .before .before .before .before .before .before .before .before .before .before .before .before in
-    (s .pre .0, (c .before .before .loop .inv .size, c .before .loop-test .taken))
+    (s .pre .0, (c .before .before .loop .inv .0 .size, c .before .loop-test .taken))
 
 same-length-2 : tie.Need-same-length-2 Inv-loop μ-loop
 same-length-2 c =
@@ -51,7 +53,7 @@ same-length-2 c =
     let l = c₁ .loop in
     let s = c₁ .before .before .before .before .before .before .before .before .before .before .before .before in
     let e : length (c .before .before .before .visit-node .last .1 .0) ≡ length (l .map) = search needs in
-    e ∙ l .inv .size ∙ sym (s .pre .1 .0)
+    e ∙ l .inv .0 .size ∙ sym (s .pre .1 .0)
 
 returns-2 : tie.Need-returns-2 Inv-loop μ-loop
 returns-2 c =
@@ -61,20 +63,20 @@ returns-2 c =
     let c₂ = c₁ .before .before .before in
     let l = c₂ .loop in
     let s = c₂ .before .before .before .before .before .before .before .before .before .before .before .before in
-    visit-bad (s .args .m .now) (l .map) (visit-node .last .1 .0) (l .n) (l .inv .used (loop-test .taken)) (visit-node .result) (visit-node .ensures)
+    visit-bad (s .args .m .now) (l .map) (visit-node .last .1 .0) (l .n) (l .inv .0 .used (loop-test .taken)) (visit-node .result) (visit-node .ensures)
     (not-true (visit-node .result) (c .if2 .taken))
 
-next-marked-requires-2 : tie.Need-next-marked-requires-2 Inv-loop μ-loop
-next-marked-requires-2 c κs =
-    let c₁ = c .before .before .before .before .before .before in
-    let loop-test = c₁ .loop-test in
-    let s = c₁ .before .before .before .before .before .before .before .before .before .before .before .before .before in
-    (rw length-take (omega arith), rw length-take (omega (arith, s .pre .0, loop-test .taken)))
+next-spot-requires : tie.Need-next-spot-requires Inv-loop μ-loop
+next-spot-requires c κs =
+    let loop-test = c .before .before .before .before .before .before .loop-test in
+    let l = c .before .before .before .before .before .before .before .loop in
+    let s = c .before .before .before .before .before .before .before .before .before .before .before .before .before .before .before .before .before .before .before in
+    (rw length-take (omega arith), (rw length-take (omega (arith, s .pre .0, loop-test .taken)), l .inv .1 (loop-test .taken)))
 
 loop-less : tie.Need-loop-less Inv-loop μ-loop
 loop-less c =
     let loop-test = c .before .before .before .before .before .before .before .loop-test in
-    omega (arith, c .next-marked2 .ensures .after, loop-test .taken)
+    omega (arith, c .next-spot .ensures .first .after, loop-test .taken)
 
 loop-again : tie.Need-loop-again Inv-loop μ-loop
 loop-again c =
@@ -88,23 +90,24 @@ loop-again c =
     let yes = not-false (visit-node .result) (c .before .before .if2 .left) in
     let ws = s .args .m .now in
     let map = visit-node .last .1 .0 in
-    let t = visit-on ws (l .map) map (l .n) (l .inv .used (loop-test .taken)) (visit-node .result) (visit-node .ensures) yes (l .inv .targeting) in
-    walk-to ws map (l .n + 1) (c .next-marked2 .result) (s .pre .0) (e ∙ l .inv .size) (c .next-marked2 .ensures) t
+    let t = visit-on ws (l .map) map (l .n) (l .inv .0 .used (loop-test .taken)) (visit-node .result) (visit-node .ensures) yes (l .inv .0 .targeting) in
+    let q = c .next-spot .ensures in
+    (walk-to ws map (l .n + 1) _ (s .pre .0) (e ∙ l .inv .0 .size) (q .first) t, λ h. q .left (rw length-take (omega (arith, s .pre .0))))
 
 same-length-3 : tie.Need-same-length-3 Inv-loop μ-loop
 same-length-3 c =
     let s = c .before .before .before .before .before .before .before .before .before .before .before .before .before in
-    c .before .loop .inv .size ∙ sym (s .pre .1 .0)
+    c .before .loop .inv .0 .size ∙ sym (s .pre .1 .0)
 
 returns-3 : tie.Need-returns-3 Inv-loop μ-loop
 returns-3 c =
     let l = c .before .loop in
     let s = c .before .before .before .before .before .before .before .before .before .before .before .before .before in
-    target-end (s .args .m .now) (l .map) (l .n) (s .pre .0) (c .loop-test .left) (l .inv .targeting)
+    target-end (s .args .m .now) (l .map) (l .n) (s .pre .0) (c .loop-test .left) (l .inv .0 .targeting)
 
 pub targets-spec : {M : Type 1} → statement M
 targets-spec =
     tie.close
     (tie.spec Inv-loop μ-loop (λ c. search needs) (λ c κs. search needs) (λ c κs. search needs) (λ c. search needs) returns (λ c. search needs)
-    (λ c. search needs) (λ c. search needs) next-marked-requires loop-holds visit-node-requires same-length-2 returns-2 (λ c. search needs)
-    (λ c. search needs) (λ c. search needs) (λ c. search needs) next-marked-requires-2 loop-less loop-again same-length-3 returns-3)
+    (λ c. search needs) (λ c. search needs) first-spot-requires loop-holds visit-node-requires same-length-2 returns-2 (λ c. search needs)
+    (λ c. search needs) (λ c. search needs) next-spot-requires loop-less loop-again same-length-3 returns-3)

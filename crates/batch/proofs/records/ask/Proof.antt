@@ -1,69 +1,99 @@
--- The marks are counted before anything is written; then the numbers stand behind the first cell.
+-- Whether the list has room is known before anything is written; then the numbers stand behind the first cell.
 use borrow.Author.Needs.{needs}
+use borrow.Author.Tests.{not-true, not-false, ltb-true, ltb-false}
 use mathlib.Core.Path.{_≡_, refl, sym, ap, _∙_, subst}
+use mathlib.Core.List.{List}
 use Prim.Native.Nat.{ℕ, _+_, _*_, _-_, _≤_, _<_}
 use native.Mathlib.Omega.{arith}
 use lib.ListN.{length, set, length-set}
+use borrow.Rule.Slice.PartMut.{putMid, same-len-mid, mid-len}
 use Rattle.book.specs.Memory.{rulesIn}
-use Rattle.questions.specs.Asking.{answers}
-use Rattle.questions.specs.Listing.{numbers-count}
+use Rattle.tree.specs.Tally.{marked}
+use Rattle.questions.specs.Asking.{numbers, answers}
 use Rattle.batch.specs.Commands.{modeOf, asks}
-use Rattle.batch.proofs.Writing.{no-room, with-cells, behind-first, kept-long}
-use Rattle.batch.proofs.Doing.{how-many, few, listed-are}
+use Rattle.batch.proofs.Writing.{no-room, cells-then}
+use Rattle.batch.proofs.Doing.{these, as-many, listed-are, never-many}
 use Rattle.batch.proofs.records.ask.Statement.{statement}
 use Rattle.batch.proofs.records.ask.Tie as tie
 
-module _ (r : tie.After-count) where
+module _ (r : tie.After-ask) where
   abbrev s : tie.Start
-  s = r .before .before .before .before .before .before .before .before
+  s = r .before .before .before .before .before .before
 
-  marks-long : length (r .before .before .ask .result) ≡ 64
+  marks-long : length (r .ask .result) ≡ 64
   marks-long = search needs
 
-  many : r .count .result ≡ length (answers (modeOf (s .args .kind)) (s .args .question .now) (rulesIn (s .args .book .now)))
-  many = how-many (s .args .book .now) (s .args .question .now) (r .before .before .ask .result) (s .args .kind) (r .before .before .before .before .fills-question .result) (r .before .before .before .fills-rule .result) (r .before .before .before .before .fills-question .ensures) (r .before .before .before .fills-rule .ensures) (r .before .before .ask .ensures) marks-long (r .count .result) (r .count .ensures)
+  answers-are : numbers (marked (r .ask .result)) 4096 ≡ answers (modeOf (s .args .kind)) (s .args .question .now) (rulesIn (s .args .book .now))
+  answers-are = these (s .args .book .now) (s .args .question .now) (r .ask .result) (s .args .kind) (r .before .before .fills-question .result) (r .before .fills-rule .result) (r .before .before .fills-question .ensures) (r .before .fills-rule .ensures) (r .ask .ensures)
 
-  low : r .count .result ≤ 512
-  low = few (s .args .book .now) (s .args .question .now) (r .before .before .ask .result) (s .args .kind) (r .before .before .before .before .fills-question .result) (r .before .before .before .fills-rule .result) (r .before .before .before .before .fills-question .ensures) (r .before .before .before .fills-rule .ensures) (r .before .before .ask .ensures) (s .pre .0) marks-long (r .count .result) (r .count .ensures)
+  few : length (numbers (marked (r .ask .result)) 4096) ≤ 512
+  few = never-many (s .args .book .now) (s .args .question .now) (r .ask .result) (s .args .kind) (r .before .before .fills-question .result) (r .before .fills-rule .result) (r .before .before .fills-question .ensures) (r .before .fills-rule .ensures) (r .ask .ensures) (s .pre .0)
 
 returns : tie.Need-returns
 returns c =
-    no-room (asks (rulesIn (c .before .before .before .before .before .before .before .before .before .args .book .now)) (c .before .before .before .before .before .before .before .before .before .args .kind) (c .before .before .before .before .before .before .before .before .before .args .question .now) .answer) (c .before .before .before .before .before .before .before .before .before .args .out .now)
-    (subst (λ (n : ℕ). length (c .before .before .before .before .before .before .before .before .before .args .out .now) ≤ n) (many (c .before)) (c .if1 .taken))
+    let out = c .before .before .before .before .before .before .before .before .before .args .out .now in
+    let h = ltb-false (length (numbers (marked (c .before .before .before .ask .result)) 4096)) (length out) (sym (c .before .has-room .ensures) ∙ not-true _ (c .if1 .taken)) in
+    no-room (asks (rulesIn (c .before .before .before .before .before .before .before .before .before .args .book .now)) (c .before .before .before .before .before .before .before .before .before .args .kind) (c .before .before .before .before .before .before .before .before .before .args .question .now) .answer) out (subst (λ (n : ℕ). length out ≤ n) (ap length (answers-are (c .before .before .before))) h)
 
-cast-out : tie.Need-cast-out
-cast-out c = let h = low (c .before) in omega arith
-
-sub-list : tie.Need-sub-list
-sub-list c = let h = c .before .if1 .left in simp length-set (omega arith)
-
-part-list-start : tie.Need-part-list-start
-part-list-start c = let h = c .before .if1 .left in simp length-set (omega arith)
+-- the list has room
+room : (e : tie.Else1) → length (numbers (marked (e .before .before .before .ask .result)) 4096) < length (e .before .before .before .before .before .before .before .before .before .args .out .now)
+room e = ltb-true (length (numbers (marked (e .before .before .before .ask .result)) 4096)) (length (e .before .before .before .before .before .before .before .before .before .args .out .now)) (sym (e .before .has-room .ensures) ∙ not-false _ (e .if1 .left))
 
 list-requires : tie.Need-list-requires
 list-requires c κs =
     let out = c .before .before .before .before .before .before .before .before .before .before .before .args .out .now in
-    let n = c .before .before .before .count .result in
-    let h = c .before .before .if1 .left in
-    let l = behind-first out n (length (set out 0 n) - 1) (omega arith) (ap (λ (j : ℕ). j - 1) (length-set out 0 n)) in
-    let e = c .before .before .before .count .ensures ∙ numbers-count (c .before .before .before .before .before .ask .result) (marks-long (c .before .before .before)) in
-    (marks-long (c .before .before .before), at-most _ _ _ _ e (sym l) (omega arith))
+    let h = room (c .before .before) in
+    (marks-long (c .before .before .before .before .before), fits _ _ _ h (mid-len 1 (length out) out (omega arith)))
   where
-    at-most : (a b k m : ℕ) → a ≡ b → k ≡ m → a ≤ k → b ≤ m
-    at-most a b k m e f h = omega arith
+    fits : (n k m : ℕ) → n < k → m ≡ k - 1 → n ≤ m
+    fits n k m h e = omega arith
+
+module _ (c : tie.After-slice-known2) where
+  abbrev a : tie.After-ask
+  a = c .before .before .before .before .before .before .before .before
+
+  abbrev out : List ℕ
+  out = s a .args .out .now
+
+  -- the output with the numbers behind its first cell
+  abbrev put : List ℕ
+  put = putMid 1 (length out - 1) out (c .before .before .list .last .1 .0)
+
+  put-long : length put ≡ length out
+  put-long = same-len-mid 1 (length out - 1) out (c .before .before .list .last .1 .0) (c .before .before .list .kept .1 .0)
+
+  count-is : c .before .before .list .result ≡ length (answers (modeOf (s a .args .kind)) (s a .args .question .now) (rulesIn (s a .args .book .now)))
+  count-is = as-many (s a .args .book .now) (s a .args .question .now) (a .ask .result) (s a .args .kind) (a .before .before .fills-question .result) (a .before .fills-rule .result) (a .before .before .fills-question .ensures) (a .before .fills-rule .ensures) (a .ask .ensures) _ _ _ (c .before .before .list .ensures)
+
+  low : c .before .before .list .result ≤ 512
+  low = let h = few a in omega (arith, c .before .before .list .ensures .count)
+
+cast-out : tie.Need-cast-out
+cast-out c = let h = low c in omega arith
+
+sub-list : tie.Need-sub-list
+sub-list c = let h = room (c .before) in omega arith
+
+part-list-start : tie.Need-part-list-start
+part-list-start c = let h = room (c .before) in omega arith
+
+slice-write-out : tie.Need-slice-write-out
+slice-write-out c = let h = room (c .before .before .before .before .before) in omega (arith, put-long c)
+
+add-result : tie.Need-add-result
+add-result c = let h = low c in omega arith
 
 same-length : tie.Need-same-length
-same-length c = kept-long (c .before .before .before .before .before .before .before .before .before .before .before .before .before .before .args .out .now) (c .before .before .list .last .1 .0) (c .before .before .before .before .before .before .count .result) (length (set (c .before .before .before .before .before .before .before .before .before .before .before .before .before .before .args .out .now) 0 (c .before .before .before .before .before .before .count .result)) - 1) (c .before .before .list .kept .1 .0)
+same-length c = length-set (put c) 0 (c .before .before .list .result) ∙ put-long c
 
 returns-2 : tie.Need-returns-2
 returns-2 c =
-    let t = c .before .before .before .before .before .before .before .before .before .before .before .before .before .before in
-    let r = c .before .before .before .before .before .before in
-    let out = t .args .out .now in
-    let m = many r in
-    with-cells (asks (rulesIn (t .args .book .now)) (t .args .kind) (t .args .question .now) .answer) (r .count .result) (first (r .count .result) _ m) out (c .before .before .list .last .1 .0) (length (set out 0 (r .count .result)) - 1) (r .count .result + 1)
-    (subst (λ (n : ℕ). n < length out) m (c .before .before .before .before .before .if1 .left)) (ap (λ (j : ℕ). j - 1) (length-set out 0 (r .count .result))) (ap (λ (j : ℕ). j + 1) m)
-    (listed-are (t .args .book .now) (t .args .question .now) (r .before .before .ask .result) (t .args .kind) (r .before .before .before .before .fills-question .result) (r .before .before .before .fills-rule .result) (r .before .before .before .before .fills-question .ensures) (r .before .before .before .fills-rule .ensures) (r .before .before .ask .ensures) _ _ (c .before .before .list .ensures))
+    let t = s (a c) in
+    let m = count-is c in
+    let n = c .before .before .list .result in
+    cells-then (asks (rulesIn (t .args .book .now)) (t .args .kind) (t .args .question .now) .answer) n (first n _ m) (out c) (c .before .before .list .last .1 .0) (length (out c) - 1) (n + 1)
+    (subst (λ (k : ℕ). k < length (out c)) (ap length (answers-are (a c))) (room (c .before .before .before .before .before))) refl (ap (λ (j : ℕ). j + 1) m)
+    (listed-are (t .args .book .now) (t .args .question .now) (a c .ask .result) (t .args .kind) (a c .before .before .fills-question .result) (a c .before .fills-rule .result) (a c .before .before .fills-question .ensures) (a c .before .fills-rule .ensures) (a c .ask .ensures) _ _ _ (c .before .before .list .ensures))
   where
     first : (n k : ℕ) → n ≡ k → n ≡ 4096 * 0 + k
     first n k e = omega arith
@@ -76,15 +106,15 @@ ask-spec =
     (λ c κs. search needs)
     (λ c κs. search needs)
     (λ c. search needs)
-    (λ c κs. search needs)
+    (λ c κs. (marks-long (c .before), few (c .before)))
     returns
-    cast-out
-    (λ c. search needs)
     (λ c. search needs)
     sub-list
     part-list-start
     (λ c. search needs)
     list-requires
-    (λ c. search needs)
+    cast-out
+    slice-write-out
+    add-result
     same-length
     returns-2)

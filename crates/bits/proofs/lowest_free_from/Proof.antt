@@ -6,17 +6,17 @@ use lib.ListN.{length}
 use Rattle.bits.specs.Packed.{bits, Skipped}
 use Rattle.bits.proofs.Searching.{first-clear, found, passed, none-found}
 use borrow.Author.Needs.{needs}
-use Rattle.bits.proofs.lowest_free.Statement.{statement}
-use Rattle.bits.proofs.lowest_free.Tie as tie
+use Rattle.bits.proofs.lowest_free_from.Statement.{statement}
+use Rattle.bits.proofs.lowest_free_from.Tie as tie
 
 abbrev Inv-loop : tie.InvT-loop
-Inv-loop map i₀ i = (i ≤ length map) × Skipped 0 (bits map) 0 (i * 64)
+Inv-loop map from i₀ i = (i ≤ length map) × Skipped 0 (bits map) 0 (i * 64)
 
 abbrev μ-loop : tie.MeasureT-loop
-μ-loop map i₀ i = length map - i
+μ-loop map from i₀ i = length map - i
 
 loop-holds : tie.Need-loop-holds Inv-loop μ-loop
-loop-holds c = (omega arith, λ k a b. absurd (omega arith))
+loop-holds c = let s = c .before in (s .pre .1 .0, s .pre .1 .1)
 
 returns : tie.Need-returns Inv-loop μ-loop
 returns c =
@@ -47,8 +47,8 @@ returns-2 c =
     let l = c .before .loop in
     none-found 0 (c .before .before .before .args .map .now) 0 (l .i * 64) (omega arith) (omega arith) (l .inv .1)
 
-pub lowest-free-spec : {M : Type 1} → statement M
-lowest-free-spec =
+pub lowest-free-from-spec : {M : Type 1} → statement M
+lowest-free-from-spec =
     tie.close
     (tie.spec Inv-loop μ-loop loop-holds (λ c. search needs) (λ c. search needs) (λ c κs. search needs) (λ c. search needs) (λ c. search needs)
     returns (λ c. search needs) (λ c. search needs) loop-again (λ c. search needs) returns-2)
