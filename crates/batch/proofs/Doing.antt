@@ -2,16 +2,14 @@
 use mathlib.Core.Path.{_≡_, refl, sym, ap, ap₂, _∙_, subst}
 use mathlib.Core.List.{List, [], _∷_, _++_}
 use mathlib.Core.Bool.{Bool, true, false}
-use Prim.Native.Nat.{ℕ, zero, suc, _+_, _-_, _*_, _≤_, _<_}
+use Prim.Native.Nat.{ℕ, _+_, _-_, _≤_, _<_}
 use native.Mathlib.Omega.{arith}
 use native.Mathlib.Decide.{ℕ-discrete}
 use lib.Dec.{eqb}
 use lib.ListN.{length, take, drop, replicate}
 use lib.Seq.{take-append-seam}
-use Rattle.bits.specs.Packed.{bits, sum}
 use Rattle.term.specs.Counting.{true≢false}
 use Rattle.term.specs.Machine.{fillsQuestion, fillsRule}
-use Rattle.tree.specs.Shape.{Shape}
 use Rattle.tree.specs.Tally.{marked}
 use Rattle.book.specs.declared.Added.{Added}
 use Rattle.book.specs.declared.Added.the-variants.{Taken, HeldAlready, BookFull, NoNodes}
@@ -23,9 +21,9 @@ use Rattle.book.specs.Facts.{limited}
 use Rattle.questions.specs.Asking.{numbers, answers}
 use Rattle.questions.specs.Demand2.{never-more}
 use Rattle.questions.specs.Promises.{Asked, Lists}
-use Rattle.questions.specs.Listing.{numbers-count, numbers-answers}
+use Rattle.questions.specs.Listing.{numbers-answers}
 use Rattle.batch.specs.Records.{Record, bare, good}
-use Rattle.batch.specs.Commands.{Command, Add, Remove, Ask, Show, Room, Stops, modeOf, Change, more, less, Effect, tells, changeOf, adds, changeAt, removes, asks, shown, shows, counts, does}
+use Rattle.batch.specs.Commands.{Command, Add, Remove, Ask, Show, Room, Stops, modeOf, Change, Effect, tells, changeOf, adds, changeAt, removes, asks, shown, shows, counts, does}
 use Rattle.batch.specs.Promises.{Writes, Along, none, grown, shrunk, Becomes, Does}
 
 not-none : {c : Change} {cs : List Change} → c ∷ cs ≡ [] → ⊥
@@ -119,9 +117,6 @@ rule-filled k a b = four (λ j. ¬ (j ≡ 4) → eqb j 5 ≡ fillsRule (modeOf j
 module _ (ws q marks : List ℕ) (kind : ℕ) (a b : Bool) (ea : a ≡ fillsQuestion (modeOf kind)) (eb : b ≡ fillsRule (modeOf kind)) (asked : Asked a b ws q marks) where
   pub these : numbers (marked marks) 4096 ≡ answers (modeOf kind) q (rulesIn ws)
   these = numbers-answers (modeOf kind) ws q marks (subst (λ (x : Bool). Asked (fillsQuestion (modeOf kind)) x ws q marks) eb (subst (λ (x : Bool). Asked x b ws q marks) ea asked))
-
-  pub how-many : length marks ≡ 64 → (n : ℕ) → n ≡ sum (bits marks) → n ≡ length (answers (modeOf kind) q (rulesIn ws))
-  how-many l n e = e ∙ numbers-count marks l ∙ ap length these
 
   pub as-many : (out out′ : List ℕ) (n : ℕ) → Lists marks out out′ n → n ≡ length (answers (modeOf kind) q (rulesIn ws))
   as-many out out′ n l = l .count ∙ ap length these

@@ -1,7 +1,7 @@
 -- One command is one step of the definition: its record does not fit, or it stops the batch, or the batch goes on behind it.
 use mathlib.Core.Path.{_≡_, refl, sym, ap, ap₂, _∙_, subst}
 use mathlib.Core.List.{List, [], _∷_, _++_, append-nil, append-assoc}
-use Prim.Native.Nat.{ℕ, zero, suc, _+_, _-_, _≤_, _<_}
+use Prim.Native.Nat.{ℕ, suc, _+_, _-_, _≤_, _<_}
 use native.Mathlib.Omega.{arith}
 use native.Mathlib.Decide.{decLt}
 use lib.ListN.{length, take, drop, length-append, length-drop}
@@ -9,10 +9,10 @@ use lib.Seq.{take-at, drop-at, drop-drop}
 use Rattle.tree.specs.Shape.{Shape}
 use Rattle.book.specs.Rules.{Rules}
 use Rattle.book.specs.Memory.{Passing, rulesIn}
-use Rattle.batch.specs.Records.{Record, cellsOf, written}
+use Rattle.batch.specs.Records.{cellsOf, written}
 use Rattle.batch.specs.Commands.{Command, commandIn, termSize, stopOf, Change, Effect, does}
-use Rattle.batch.specs.Run.{Outcome, ends, endsWith, goesOn, run}
-use Rattle.batch.specs.Promises.{Writes, Along, none, grown, shrunk, Becomes, Does, Came, Ran}
+use Rattle.batch.specs.Run.{Outcome, goesOn, run}
+use Rattle.batch.specs.Promises.{Along, none, grown, shrunk, Becomes, Does, Came, Ran}
 use Rattle.batch.specs.Laws.{run-none, run-10, run-stops, run-goes-on}
 use Rattle.batch.proofs.Doing.{stays}
 

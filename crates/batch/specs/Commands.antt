@@ -1,15 +1,14 @@
 -- What a command says and what it does: 01, 'Commands and records' and 'Refusal numbers'.
-use mathlib.Core.Path.{_≡_}
 use mathlib.Core.List.{List, [], _∷_}
 use mathlib.Core.Bool.{Bool, true, false}
-use Prim.Native.Nat.{ℕ, suc, _+_, _/_, _%_, _≤_, _<_}
+use Prim.Native.Nat.{ℕ, _/_, _%_}
 use lib.Dec.{eqb, leb}
 use lib.ListN.{take}
 use Rattle.term.specs.Questions.{Mode, variants, instances, generalisations, unifiables}
 use Rattle.term.specs.Reading.{readTerm, refusalOf}
 use Rattle.term.specs.declared.reading.Reading.{Reading}
 use Rattle.term.specs.declared.reading.Reading.the-variants.{Whole, Refused}
-use Rattle.book.specs.Rules.{Held, nothing, rule, Rules, isHeld, withoutRule, ruleCount, nodesOf, addRefusal, judged, after}
+use Rattle.book.specs.Rules.{Held, nothing, rule, Rules, withoutRule, ruleCount, nodesOf, addRefusal, judged, after}
 use Rattle.book.specs.declared.Added.{Added}
 use Rattle.book.specs.declared.Added.the-variants.{Taken, HeldAlready, BookFull, NoNodes}
 use Rattle.book.specs.Promises.{removal, removeRefusal}

@@ -3,8 +3,8 @@ pub mod reader;
 pub mod records;
 
 ghost use mathlib.Core.Path.{_≡_};
-ghost use Prim.Native.Nat.{_+_, _<_, _≤_};
-ghost use lib.ListN.{length, drop};
+ghost use Prim.Native.Nat.{_+_, _<_};
+ghost use lib.ListN.{drop};
 ghost use Rattle.book.specs.Memory.{Passing, rulesIn};
 ghost use Rattle.batch.specs.Commands.{termSize, stopOf, does};
 ghost use Rattle.batch.specs.Promises.{Read, Does, Ran, Runs};

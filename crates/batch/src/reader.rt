@@ -1,7 +1,7 @@
 // Commands out of cells that anybody may have written. The cells and the place in them travel together as one reader.
 ghost use mathlib.Core.Path.{_≡_};
 ghost use Prim.Native.Nat.{_+_, _<_};
-ghost use lib.ListN.{length, drop};
+ghost use lib.ListN.{drop};
 ghost use Rattle.term.specs.Reading.{readTerm};
 ghost use Rattle.batch.specs.Commands.{Add, Ask, withTerm, withNumber0, commandIn};
 use term::reading;

@@ -1,5 +1,5 @@
 -- A word is its fields: it is zero from a field on exactly where the shift leaves nothing, and it is known by its bits
-use mathlib.Core.Path.{_≡_, refl, sym, ap, ap₂, _∙_, subst}
+use mathlib.Core.Path.{_≡_, sym, ap, ap₂, _∙_}
 use mathlib.Core.List.{List}
 use mathlib.Core.Bool.{Bool, true, false}
 use Prim.Native.Nat.{ℕ, zero, suc, _+_, _-_, _*_, _/_, _%_, _^_, _≤_, _<_}
@@ -11,7 +11,7 @@ use borrow.Author.Tests.{eqb-true, eqb-false}
 use lib.Dec.{eqb}
 use lib.ListN.{length, getD, List·getD-eq-default}
 use lib.Pow.{mod-pow-add}
-use Rattle.bits.specs.Packed.{parts, fields, bits, Zeros}
+use Rattle.bits.specs.Packed.{fields, bits, Zeros}
 use Rattle.bits.specs.Laws.{get-unpack, get-parts, at-word, length-unpack}
 
 -- ---- fields: of a word w the last 4 - r

@@ -6,7 +6,7 @@ use native.Mathlib.Nat.{div-add-mod', mod-lt, zero-div, zero-mod, mul-one}
 use native.Mathlib.Omega.{arith}
 use lib.ListN.{length, getD, set, length-append, List·getD-append}
 use lib.Seq.{getD-append-add}
-use Rattle.bits.specs.Packed.{parts, unpack, bits, sum}
+use Rattle.bits.specs.Packed.{parts, unpack, bits}
 
 -- ---- one word
 
@@ -65,14 +65,3 @@ get-bit ws n = get-unpack 1 64 ws n (63 - n % 64) (omega arith) ∙ ap (λ (s : 
 
 pub bit-low : (ws : List ℕ) (n : ℕ) → getD (bits ws) n 0 < 2
 bit-low ws n = subst (λ (x : ℕ). x < 2) (sym (get-bit ws n)) (mod-lt (getD ws (n / 64) 0 / 2 ^ (63 - n % 64)) (omega arith))
-
--- one element replaced: a bit that was 0 and is 1 adds one
-pub sum-set : (l : List ℕ) (i v : ℕ) → i < length l → sum (set l i v) + getD l i 0 ≡ sum l + v
-unfolding sum
-sum-set [] i v h = absurd (omega arith)
-sum-set (x ∷ l) zero v h = omega arith
-sum-set (x ∷ l) (suc i) v h = let ih : sum (set l i v) + getD l i 0 ≡ sum l + v = sum-set l i v (omega arith) in omega arith
-
--- the count after `mark` (v is 1) and after `clear` (v is 0)
-pub count-set : (ws ws′ : List ℕ) (n v : ℕ) → n < 64 * length ws → bits ws′ ≡ set (bits ws) n v → sum (bits ws′) + getD (bits ws) n 0 ≡ sum (bits ws) + v
-count-set ws ws′ n v h e = ap (λ (x : List ℕ). sum x + getD (bits ws) n 0) e ∙ sum-set (bits ws) n v (omega (arith, length-bits ws))

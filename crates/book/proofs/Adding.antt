@@ -1,14 +1,14 @@
 -- Adding: each refusal is what the rules judge, and where none is given the new memory holds the new set.
 use mathlib.Core.Path.{_≡_, refl, sym, ap, ap₂, _∙_, subst, fun-ext}
-use mathlib.Core.Logic.{_⊎_, inl, inr, _↔_}
+use mathlib.Core.Logic.{_⊎_, inl, inr}
 use mathlib.Core.List.{List, [], _∷_, _++_, map, reverse, List·Memᴰ, Memᴰ·cast, Memᴰ·map, Memᴰ·of-map}
 use mathlib.Core.Bool.{Bool, true, false}
-use Prim.Native.Nat.{ℕ, zero, suc, _+_, _-_, _*_, _≤_, _<_}
+use Prim.Native.Nat.{ℕ, zero, suc, _+_, _-_, _≤_, _<_}
 use native.Mathlib.Omega.{arith}
-use native.Mathlib.Decide.{ℕ-discrete, decLt}
-use borrow.Author.Tests.{lt-ltb, le-ltb, le-leb, lt-leb, eqb-true, eq-eqb, ne-eqb}
+use native.Mathlib.Decide.{ℕ-discrete}
+use borrow.Author.Tests.{lt-ltb, le-ltb, le-leb, lt-leb, eq-eqb, ne-eqb}
 use lib.Dec.{eqb, ltb, leb}
-use lib.ListN.{length, getD, take, drop, replicate, length-take, length-drop, length-append, length-map, take-append-drop}
+use lib.ListN.{length, getD, take, drop, length-take, length-drop, length-map, take-append-drop}
 use lib.Seq.{take-at, take-length}
 use Rattle.bits.specs.Packed.{bits, First}
 use Rattle.bits.specs.Laws.{length-bits, bit-low}
@@ -16,26 +16,26 @@ use Rattle.term.specs.Cells.{Terms, blankForm}
 use Rattle.term.specs.Counting.{true≢false}
 use Rattle.term.specs.Whole.{TermAt, whole-term}
 use Rattle.tree.specs.Basics.{up-live}
-use Rattle.tree.specs.Shape.{Shape, Used, Up, Tree, End, Passes}
+use Rattle.tree.specs.Shape.{Shape, Used}
 use Rattle.tree.specs.Rows.{passes-tree}
 use Rattle.tree.specs.Tally.{tally}
 use Rattle.tree.specs.Tallies.{tally-all, tally-le, as-many-all}
 use Rattle.tree.specs.Words.{shape}
 use Rattle.tree.specs.Change.{Grown, none, more}
-use Rattle.tree.specs.Promises.{Sound, Planted, Hangable, Hung, Absent}
+use Rattle.tree.specs.Promises.{Sound, Planted, Hangable, Hung}
 use Rattle.tree.specs.Partly.{Partly, grown-rules}
 use Rattle.tree.specs.Plant.{planted-partly, planted-full, planted-fits, no-rule}
 use Rattle.tree.specs.Leaves.{Leaf, bases, ends, Hanging}
-use Rattle.book.specs.Rules.{Held, nothing, rule, Rules, isHeld, pickHeld, withRule, terms, ruleCount, nodesOf, judged, pickAdded, after}
+use Rattle.book.specs.Rules.{Held, nothing, rule, Rules, isHeld, pickHeld, withRule, terms, ruleCount, nodesOf, judged, pickAdded}
 use Rattle.book.specs.Rules as rules
 use Rattle.book.specs.Gathered.{Standing, terms-standing, rule-inj, not-rule}
-use Rattle.book.specs.Memory.{View, view, taken, number, term, form, formOf, leaf, leaves, rulesOf, Right, Passing, rulesIn}
+use Rattle.book.specs.Memory.{View, view, taken, number, term, form, formOf, leaf, leaves, Passing, rulesIn}
 use Rattle.book.specs.Forms.{form-free, count-forms}
 use Rattle.book.specs.Holding.{rules-tally, count-tally, hanging, base-forms, at-holds, term-at}
 use Rattle.book.specs.Change.{Added, added-right, added-rules}
 use Rattle.book.specs.Promises.{IsTerm, TakesLowest, Adds, Stores}
 use Rattle.book.proofs.Looking.{rule-taken, tree-long, nodes-low}
-use Rattle.book.proofs.Placing.{Placed, TreeOnly, tree-only}
+use Rattle.book.proofs.Placing.{Placed, TreeOnly}
 
 -- no node comes or goes
 no-change : (m : Shape) → TakesLowest m m

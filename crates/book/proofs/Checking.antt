@@ -1,9 +1,9 @@
 -- The check of one record: each test that fails is a condition that does not hold, and where all pass the way up decides.
 use mathlib.Core.Path.{_≡_, refl, sym, ap, ap₂, _∙_, subst}
-use mathlib.Core.Logic.{_⊎_, inl, inr, _↔_}
+use mathlib.Core.Logic.{_⊎_, inl, inr}
 use mathlib.Core.List.{List, [], _∷_, _++_, reverse, reverse-append}
 use mathlib.Core.Bool.{Bool, true, false}
-use Prim.Native.Nat.{ℕ, zero, suc, _+_, _-_, _*_, _≤_, _<_}
+use Prim.Native.Nat.{ℕ, suc, _+_, _-_, _*_, _≤_, _<_}
 use native.Mathlib.Omega.{arith}
 use native.Mathlib.Decide.{ℕ-discrete}
 use borrow.Author.Tests.{eqb-true, eqb-false, lt-ltb}
@@ -13,7 +13,6 @@ use Rattle.bits.specs.Packed.{fields, bits, Zeros}
 use Rattle.term.specs.Counting.{true≢false}
 use Rattle.term.specs.Reading.{readTerm}
 use Rattle.term.specs.declared.reading.Fault.{Fault}
-use Rattle.term.specs.declared.reading.Reading.{Reading}
 use Rattle.term.specs.declared.reading.Reading.the-variants.{Whole, Refused}
 use Rattle.term.specs.Whole.{whole-term}
 use Rattle.tree.specs.Shape.{Shape, Up, down, On, here, above, loose}
@@ -22,7 +21,7 @@ use Rattle.tree.specs.Tally.{marked}
 use Rattle.tree.specs.Tallies.{mark-here, mark-other}
 use Rattle.tree.specs.Words.{cellOf, parentOf}
 use Rattle.tree.specs.Promises.{Marked, Climbed, formed}
-use Rattle.book.specs.Memory.{View, view, number, term, form, formOf, leaf, Recorded}
+use Rattle.book.specs.Memory.{View, view, number, form, formOf, Recorded}
 use Rattle.book.specs.Promises.{IsWhole, WayAt, RecordChecked}
 use Rattle.book.proofs.Looking.{rule-number, rule-parent}
 

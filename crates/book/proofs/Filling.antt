@@ -1,10 +1,10 @@
 -- A list that is written place by place, from the first on, is in the end what was to be written.
-use mathlib.Core.Path.{_≡_, refl, sym, ap, _∙_, subst}
+use mathlib.Core.Path.{_≡_, refl, sym, ap, _∙_}
 use mathlib.Core.List.{List, [], _∷_, _++_, map}
 use Prim.Native.Nat.{ℕ, zero, suc, _+_, _-_, _*_, _/_, _%_, _≤_, _<_}
 use native.Mathlib.Omega.{arith}
 use native.Mathlib.Decide.{ℕ-discrete, decLt}
-use lib.ListN.{length, getD, set, take, replicate, length-set, length-append, length-take, length-replicate, length-map, getD-replicate, List·getD-append, List·getD-eq-default}
+use lib.ListN.{length, getD, set, take, replicate, length-set, length-append, length-take, length-replicate, length-map, List·getD-append, List·getD-eq-default}
 use lib.Seq.{ext-getD, getD-set-same, getD-set-other, getD-append-add, getD-take}
 use Rattle.bits.specs.Packed.{parts, fields, Zeros}
 use Rattle.bits.specs.Laws.{length-unpack, parts-zero, at-word}

@@ -1,8 +1,8 @@
 -- What the code reads of memory is what the view says.
 use mathlib.Core.Path.{_≡_, refl, sym, ap, ap₂, _∙_, subst}
-use mathlib.Core.List.{List, [], _∷_, _++_}
+use mathlib.Core.List.{List}
 use mathlib.Core.Bool.{Bool, true, false}
-use Prim.Native.Nat.{ℕ, zero, suc, _+_, _-_, _*_, _≤_, _<_, min}
+use Prim.Native.Nat.{ℕ, suc, _+_, _-_, _≤_, _<_}
 use native.Mathlib.Omega.{arith}
 use borrow.Author.Tests.{lt-ltb, le-ltb, eq-eqb, ne-eqb}
 use lib.Dec.{eqb, ltb}
@@ -10,12 +10,11 @@ use lib.ListN.{length, getD, take, drop, length-take, length-drop}
 use lib.Seq.{ext-getD, getD-take, getD-drop}
 use Rattle.bits.specs.Packed.{bits, sum}
 use Rattle.term.specs.Beginnings.{both}
-use Rattle.tree.specs.Words.{cellOf, parentOf, shape}
-use Rattle.tree.specs.Tally.{marked, tally}
+use Rattle.tree.specs.Words.{cellOf, parentOf}
+use Rattle.tree.specs.Tally.{marked}
 use Rattle.tree.specs.Limits.{rule-bit, nodes-held, rules-held, used-low}
 use Rattle.tree.specs.Shape.{Used}
-use Rattle.book.specs.Memory.{View, view, taken, number, heldAt, Passing, rulesIn}
-use Rattle.book.specs.Rules.{ruleCount, nodesOf}
+use Rattle.book.specs.Memory.{view, taken, number, heldAt, Passing, rulesIn}
 use Rattle.book.specs.Holding.{rules-tally, nodes-tally, count-tally}
 use Rattle.book.specs.Promises.{pickPlace, Counts}
 

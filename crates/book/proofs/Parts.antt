@@ -1,11 +1,10 @@
 -- A store changes the words of one part and no others; so a window that does not meet that part stays.
-use mathlib.Core.Path.{_≡_, refl, sym, ap, _∙_, subst}
+use mathlib.Core.Path.{_≡_, sym, ap, _∙_}
 use mathlib.Core.Logic.{_⊎_, inl, inr}
-use mathlib.Core.List.{List, [], _∷_, _++_}
-use Prim.Native.Nat.{ℕ, zero, suc, _+_, _-_, _*_, _≤_, _<_, min}
+use mathlib.Core.List.{List, _++_}
+use Prim.Native.Nat.{ℕ, _+_, _-_, _≤_, _<_, min}
 use native.Mathlib.Omega.{arith}
-use native.Mathlib.Decide.{decLt}
-use lib.ListN.{length, getD, set, take, drop, length-take, length-drop, length-set, length-append, List·getD-append}
+use lib.ListN.{length, getD, set, take, drop, length-take, length-drop, length-set, List·getD-append}
 use lib.Seq.{ext-getD, getD-take, getD-drop, getD-append-add, getD-set-other, take-at, drop-at}
 use borrow.Rule.Slice.PartMut.{putMid, midOf, postOf, same-len-mid}
 

@@ -1,28 +1,26 @@
 -- The check decides passing: the records below r are right and their ways are marked, and in the end the marks are compared with the maps.
 use mathlib.Core.Path.{_≡_, refl, sym, ap, _∙_, subst}
 use mathlib.Core.Logic.{_⊎_, inl, inr, _↔_}
-use mathlib.Core.List.{List, [], _∷_, _++_, map, reverse, List·Memᴰ}
+use mathlib.Core.List.{List, map, reverse}
 use mathlib.Core.Bool.{Bool, true, false}
-use Prim.Native.Nat.{ℕ, zero, suc, _+_, _-_, _*_, _≤_, _<_}
+use Prim.Native.Nat.{ℕ, suc, _+_, _-_, _≤_, _<_}
 use native.Mathlib.Omega.{arith}
 use native.Mathlib.Decide.{decLt, ℕ-discrete}
-use lib.Dec.{eqb}
 use lib.ListN.{length, getD, take, drop, length-take, length-drop, replicate, length-replicate}
-use borrow.Author.Tests.{eqb-true, eqb-false, eq-eqb, ne-eqb}
+use borrow.Author.Tests.{eqb-true, eq-eqb}
 use Rattle.bits.specs.Packed.{bits, First}
 use Rattle.bits.specs.Laws.{length-bits}
 use Rattle.term.specs.Counting.{true≢false}
-use Rattle.tree.specs.Shape.{Shape, Place, Used, Valid, Goes, Up, On, End, Covered, Passes, loose}
+use Rattle.tree.specs.Shape.{Used, Up, On, End, Passes, loose}
 use Rattle.tree.specs.Tally.{marked}
 use Rattle.tree.specs.Tallies.{same-bits, no-mark}
 use Rattle.tree.specs.Promises.{Marked, Targeted}
 use Rattle.tree.specs.Check.{Climbs, decides, loosen, targets-refuse}
-use Rattle.tree.specs.Limits.{used-low}
-use Rattle.tree.specs.Leaves.{Leaf, endOf, ends}
-use Rattle.book.specs.Memory.{View, view, taken, number, form, leaf, leaves, Recorded, Right, Passing}
+use Rattle.tree.specs.Leaves.{endOf, ends}
+use Rattle.book.specs.Memory.{view, taken, form, leaf, leaves, Recorded, Passing}
 use Rattle.book.specs.Change.{of-ends, to-ends}
 use Rattle.book.specs.Promises.{Checks, WayAt, RecordChecked}
-use Rattle.book.proofs.Looking.{inside, rule-taken, tree-long, nodes-low}
+use Rattle.book.proofs.Looking.{inside, rule-taken, nodes-low}
 
 -- What holds when the records below r have been checked.
 pub record Checked (ws ways : List ℕ) (r : ℕ) : Type 0 where

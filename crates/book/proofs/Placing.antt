@@ -1,9 +1,9 @@
 -- Where a number's record is, what it shows, and what a changed tree alone changes.
 use mathlib.Core.Path.{_≡_, refl, sym, ap, ap₂, _∙_, subst, fun-ext}
-use mathlib.Core.Logic.{_⊎_, inl, inr}
-use mathlib.Core.List.{List, [], _∷_, _++_}
+use mathlib.Core.Logic.{inr}
+use mathlib.Core.List.{List, _++_}
 use mathlib.Core.Bool.{Bool, true, false}
-use Prim.Native.Nat.{ℕ, zero, suc, _+_, _-_, _*_, _≤_, _<_}
+use Prim.Native.Nat.{ℕ, suc, _+_, _-_, _*_, _≤_, _<_}
 use native.Mathlib.Omega.{arith}
 use native.Mathlib.Decide.{ℕ-discrete, decLt}
 use borrow.Author.Tests.{ltb-true, eqb-true, eq-eqb, ne-eqb}
@@ -15,10 +15,10 @@ use Rattle.term.specs.Beginnings.{both}
 use Rattle.term.specs.Counting.{true≢false}
 use Rattle.tree.specs.Words.{shape}
 use Rattle.tree.specs.Shape.{Shape}
-use Rattle.book.specs.Rules.{Held, nothing, rule, isHeld, pickHeld, withoutRule}
-use Rattle.book.specs.Memory.{View, view, taken, number, term, heldAt, rulesOf, Passing, rulesIn}
+use Rattle.book.specs.Rules.{nothing, rule, isHeld, pickHeld, withoutRule}
+use Rattle.book.specs.Memory.{View, view, taken, number, term, heldAt, Passing, rulesIn}
 use Rattle.book.specs.Holding.{term-at, term-size}
-use Rattle.book.specs.Promises.{Shows, shownSize, shownCells, pickPlace, TakesNone, Removes, removal, Gone, NotHeld}
+use Rattle.book.specs.Promises.{Shows, shownSize, shownCells, pickPlace, Removes, removal, Gone, NotHeld}
 use Rattle.book.specs.Change.{removed-right, removed-rules}
 use Rattle.book.specs.Change.{Removed as Taken-away}
 use Rattle.tree.specs.Change.{Trimmed, root, stays, goes}

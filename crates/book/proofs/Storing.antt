@@ -1,16 +1,16 @@
 -- What stores do to the view: a record written changes its own place and nothing else, and a changed tree nothing but the tree.
-use mathlib.Core.Path.{_≡_, refl, sym, ap, _∙_, subst}
+use mathlib.Core.Path.{_≡_, sym, ap, _∙_, subst}
 use mathlib.Core.Logic.{_⊎_, inl, inr}
-use mathlib.Core.List.{List, [], _∷_, _++_}
-use Prim.Native.Nat.{ℕ, zero, suc, _+_, _-_, _*_, _≤_, _<_}
+use mathlib.Core.List.{List, _++_}
+use Prim.Native.Nat.{ℕ, _+_, _-_, _*_, _≤_, _<_}
 use native.Mathlib.Omega.{arith}
-use native.Mathlib.Decide.{decLt, ℕ-discrete}
+use native.Mathlib.Decide.{decLt}
 use lib.ListN.{length, getD, set, take, drop, replicate, length-take, length-drop, length-set}
 use lib.Seq.{getD-set-same, getD-set-other}
 use borrow.Rule.Slice.PartMut.{putMid}
 use Rattle.bits.specs.Packed.{fields}
 use Rattle.tree.specs.Words.{shape}
-use Rattle.book.specs.Memory.{View, view}
+use Rattle.book.specs.Memory.{view}
 use Rattle.book.specs.Promises.{Stores}
 use Rattle.book.proofs.Filling.{fields-long}
 use Rattle.book.proofs.Parts.{Elsewhere, window, one-word, part-is, one-part}

@@ -1,31 +1,31 @@
 -- One rule more, one rule less: what is right stays right, and the set of rules changes by that rule alone.
 use mathlib.Core.Path.{_≡_, refl, sym, ap, ap₂, _∙_, subst}
 use mathlib.Core.Logic.{_⊎_, inl, inr, _↔_}
-use mathlib.Core.List.{List, [], _∷_, _++_, map, append-nil, reverse, reverse-append, List·Memᴰ, Memᴰ·cast, Memᴰ·map, Memᴰ·of-map}
+use mathlib.Core.List.{List, [], _∷_, _++_, map, reverse, reverse-append, List·Memᴰ, Memᴰ·cast, Memᴰ·map, Memᴰ·of-map}
 use mathlib.Core.Bool.{Bool, true, false, not}
 use Prim.Native.Nat.{ℕ, zero, suc, _+_, _-_, _≤_, _<_}
 use native.Mathlib.Omega.{arith}
 use native.Mathlib.Decide.{ℕ-discrete}
-use borrow.Author.Tests.{lt-ltb, eq-eqb, ne-eqb, eqb-false}
+use borrow.Author.Tests.{lt-ltb, eq-eqb, ne-eqb}
 use lib.Dec.{eqb, ltb}
-use lib.ListN.{length, getD, take, drop, replicate, length-take, List·getD-eq-default}
+use lib.ListN.{length, getD, take, replicate}
 use lib.Seq.{take-at, getD-append-add, take-length}
 use Rattle.term.specs.Beginnings.{both}
 use Rattle.term.specs.Counting.{true≢false}
 use Rattle.term.specs.Reading.{readTerm}
 use Rattle.term.specs.declared.reading.Reading.the-variants.{Whole}
-use Rattle.term.specs.Whole.{whole-alone, whole-term}
-use Rattle.tree.specs.Basics.{eqb-exact, up-used}
-use Rattle.tree.specs.Shape.{Shape, Used, Up, On, End, Passes, Joins, forms}
+use Rattle.term.specs.Whole.{whole-alone}
+use Rattle.tree.specs.Basics.{up-used}
+use Rattle.tree.specs.Shape.{Shape, Used, On, End, Passes, Joins}
 use Rattle.tree.specs.Rows.{on-row, end-on, end-childless}
 use Rattle.tree.specs.Change.{Trimmed}
 use Rattle.tree.specs.Promises.{Hung}
 use Rattle.tree.specs.Partly.{Partly, Left, link-partly, ended-new, left-of, trimmed-passes, trimmed-kept, trimmed-gone, passes-same}
 use Rattle.tree.specs.Tallies.{listed, of-listed, to-listed}
-use Rattle.tree.specs.Leaves.{Leaf, endOf, ends, bases, Hanging, rows-free}
-use Rattle.book.specs.Rules.{Held, nothing, rule, Rules, pickHeld, withRule, withoutRule}
-use Rattle.book.specs.Memory.{View, taken, number, term, form, formOf, leaf, leaves, heldAt, rulesOf, Recorded, Right}
-use Rattle.book.specs.Holding.{hanging, taken-leaf, at-holds, one-place, holds-at}
+use Rattle.tree.specs.Leaves.{endOf, ends, Hanging, rows-free}
+use Rattle.book.specs.Rules.{Held, nothing, rule, pickHeld, withRule, withoutRule}
+use Rattle.book.specs.Memory.{View, taken, number, term, form, formOf, leaf, leaves, rulesOf, Recorded, Right}
+use Rattle.book.specs.Holding.{hanging, at-holds}
 
 -- The end of the rule at a place.
 abbrev endAt : View → ℕ → End

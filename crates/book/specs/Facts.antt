@@ -1,14 +1,13 @@
 -- What the book's users may count on: the empty book holds no rules; memory that passes holds one set of rules within the limits, with exactly
 -- their nodes; two allowed outcomes of a call are the same; and what a call answers depends on the set of rules alone.
 use mathlib.Core.Path.{_≡_, refl, sym, ap, ap₂, _∙_, subst, fun-ext}
-use mathlib.Core.Logic.{_⊎_, inl, inr, _↔_}
-use mathlib.Core.List.{List, [], _∷_, _++_, map, reverse, append-nil, List·Memᴰ}
+use mathlib.Core.List.{List, [], map, reverse, append-nil, List·Memᴰ}
 use mathlib.Core.Bool.{Bool, true, false}
-use Prim.Native.Nat.{ℕ, zero, suc, _+_, _-_, _*_, _^_, _≤_, _<_}
+use Prim.Native.Nat.{ℕ, zero, suc, _+_, _-_, _≤_, _<_}
 use native.Mathlib.Omega.{arith}
 use native.Mathlib.Decide.{ℕ-discrete}
 use lib.Dec.{eqb, ltb}
-use lib.ListN.{length, getD, take, replicate, length-take, length-replicate, getD-replicate}
+use lib.ListN.{length, take, replicate, length-take, length-replicate, getD-replicate}
 use lib.Seq.{getD-take}
 use Rattle.bits.specs.Packed.{bits, sum}
 use Rattle.term.specs.Beginnings.{both, putIf, Begins}
@@ -17,13 +16,12 @@ use Rattle.term.specs.Whole.{whole-alone}
 use Rattle.term.specs.declared.reading.Reading.the-variants.{Whole}
 use Rattle.tree.specs.Shape.{Used, Up, Passes}
 use Rattle.tree.specs.Rows.{up-same, up-one}
-use Rattle.tree.specs.Tally.{tally}
 use Rattle.tree.specs.Tallies.{listed, tally-le}
 use Rattle.tree.specs.Leaves.{ends, bases, numbered}
 use Rattle.tree.specs.NodeCount.{Numbered}
 use Rattle.tree.specs.Limits.{used-low, nodeMap, nodes-held, empty-words}
-use Rattle.book.specs.Rules.{Held, nothing, rule, Rules, isHeld, noRules, withoutRule, pickHeld, terms, ruleCount, nodesOf, Added, Taken, judged, after}
-use Rattle.book.specs.Memory.{view, taken, number, term, formOf, leaf, leaves, heldAt, Right, Passing, rulesIn}
+use Rattle.book.specs.Rules.{nothing, rule, Rules, isHeld, noRules, withoutRule, pickHeld, terms, ruleCount, nodesOf, Added, judged, after}
+use Rattle.book.specs.Memory.{view, taken, number, term, formOf, leaf, leaves, heldAt, Passing, rulesIn}
 use Rattle.book.specs.Holding.{hanging, holds-at, number-low, term-size, base-forms, nodes-tally, rules-tally, count-tally}
 use Rattle.book.specs.Promises.{IsTerm, Empties, Checks, Adds, Removes, Removed, removal, shownSize, shownCells, Shows, Counts}
 

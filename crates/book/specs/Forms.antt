@@ -1,13 +1,12 @@
 -- Blank forms as rows of numbers: no whole term's begins another's, and they count the same nodes.
-use mathlib.Core.Path.{_≡_, refl, sym, ap, ap₂, _∙_, subst}
+use mathlib.Core.Path.{_≡_, refl, sym, ap, _∙_}
 use mathlib.Core.List.{List, [], _∷_, _++_, map, append-nil}
 use mathlib.Core.Bool.{Bool, true, false}
-use Prim.Native.Nat.{ℕ, zero, suc, _≤_, _<_}
+use Prim.Native.Nat.{ℕ, _≤_, _<_}
 use native.Mathlib.Omega.{arith}
-use borrow.Author.Tests.{lt-ltb, le-ltb, ltb-true, ltb-false, ne-eqb, eq-eqb}
+use borrow.Author.Tests.{ltb-true, ltb-false, ne-eqb, eq-eqb}
 use lib.Dec.{eqb, ltb}
-use lib.ListN.{length, take}
-use Rattle.term.specs.Cells.{Cell, vari, symb, Row, Blank, blank, star, Terms, blankOf, blankForm, numberOf, pickCell}
+use Rattle.term.specs.Cells.{symb, Row, Blank, blank, star, Terms, blankOf, blankForm, numberOf, pickCell}
 use Rattle.term.specs.Beginnings.{nodes, sameCell, nodeCount}
 use Rattle.term.specs.Counting.{nodes-map, cons-eq}
 use Rattle.term.specs.Preorder.{same-rest}

@@ -1,27 +1,26 @@
 -- A view that is right holds exactly one set of rules, and its tree and maps have exactly the nodes and the rules of that set.
 use mathlib.Core.Path.{_≡_, refl, sym, ap, ap₂, _∙_, subst}
-use mathlib.Core.Logic.{_⊎_, inl, inr, _↔_}
-use mathlib.Core.List.{List, [], _∷_, _++_, map, List·Memᴰ, List·Memᴰ·head, Memᴰ·cast, Memᴰ·map, Memᴰ·of-map}
+use mathlib.Core.Logic.{_↔_}
+use mathlib.Core.List.{List, [], _++_, map, List·Memᴰ, Memᴰ·cast, Memᴰ·map, Memᴰ·of-map}
 use mathlib.Core.Bool.{Bool, true, false}
 use Prim.Native.Nat.{ℕ, zero, suc, _+_, _-_, _≤_, _<_}
 use native.Mathlib.Omega.{arith}
-use borrow.Author.Tests.{lt-ltb, ltb-true, eqb-true, eq-eqb}
+use borrow.Author.Tests.{lt-ltb, ltb-true, eqb-true}
 use lib.Dec.{eqb, ltb}
-use lib.ListN.{length, take, length-append, length-map, length-take}
-use Rattle.term.specs.Cells.{Terms, blankForm}
-use Rattle.term.specs.Beginnings.{both, Distinct, nodeCount}
+use lib.ListN.{length, length-append, length-map, length-take}
+use Rattle.term.specs.Beginnings.{both}
 use Rattle.term.specs.Distinct.{as-many, distinct-map}
 use Rattle.term.specs.Counting.{true≢false, nodes-same}
 use Rattle.term.specs.Whole.{TermAt, whole-term}
 use Rattle.tree.specs.Basics.{eqb-exact}
-use Rattle.tree.specs.Shape.{Shape, Used, Passes}
+use Rattle.tree.specs.Shape.{Used}
 use Rattle.tree.specs.Tally.{tally}
 use Rattle.tree.specs.Tallies.{listed, length-listed, of-listed, to-listed, listed-distinct}
-use Rattle.tree.specs.Leaves.{Leaf, bases, ends, Hanging, numbered}
-use Rattle.tree.specs.NodeCount.{node-count, nodes-are}
+use Rattle.tree.specs.Leaves.{Leaf, bases, Hanging, numbered}
+use Rattle.tree.specs.NodeCount.{nodes-are}
 use Rattle.book.specs.Rules.{Held, nothing, rule, Rules, isHeld, termsOf, pickHeld, each, terms, ruleCount, nodesOf}
-use Rattle.book.specs.Gathered.{Standing, terms-standing, rule-inj, not-rule}
-use Rattle.book.specs.Memory.{View, taken, number, term, form, formOf, leaf, leaves, heldAt, rulesOf, Recorded, Right}
+use Rattle.book.specs.Gathered.{terms-standing, rule-inj, not-rule}
+use Rattle.book.specs.Memory.{View, taken, number, term, form, formOf, leaf, leaves, heldAt, rulesOf, Right}
 use Rattle.book.specs.Forms.{form-free, count-forms}
 
 both-true : (a b : Bool) → a ≡ true → b ≡ true → both a b ≡ true

@@ -1,8 +1,8 @@
 -- What lent memory holds, and when it passes: docs/BOOK.md, 'The check', line by line.
 use mathlib.Core.Path.{_≡_}
-use mathlib.Core.List.{List, [], _∷_, _++_, map}
-use mathlib.Core.Bool.{Bool, true, false}
-use Prim.Native.Nat.{ℕ, zero, suc, _+_, _*_, _≤_, _<_}
+use mathlib.Core.List.{List, map}
+use mathlib.Core.Bool.{Bool, true}
+use Prim.Native.Nat.{ℕ, _+_, _*_, _≤_, _<_}
 use lib.Dec.{eqb, ltb}
 use lib.ListN.{length, getD, take, drop}
 use Rattle.bits.specs.Packed.{fields}
@@ -14,7 +14,7 @@ use Rattle.tree.specs.Shape.{Shape, Passes}
 use Rattle.tree.specs.Words.{shape}
 use Rattle.tree.specs.Tallies.{listed}
 use Rattle.tree.specs.Leaves.{Leaf, ends}
-use Rattle.book.specs.Rules.{Held, nothing, rule, Rules, pickHeld}
+use Rattle.book.specs.Rules.{nothing, rule, Rules, pickHeld}
 
 -- What memory says: the tree with the rules that hang in it, and for each rule number the place of its record, for each
 -- place the length of the term there and 32 cells.

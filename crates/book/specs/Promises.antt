@@ -3,14 +3,14 @@ use mathlib.Core.Path.{_≡_}
 use mathlib.Core.List.{List, [], _∷_, _++_}
 use mathlib.Core.Bool.{Bool, true, false}
 use mathlib.Core.Logic.{_⊎_, _↔_}
-use Prim.Native.Nat.{ℕ, suc, _+_, _-_, _≤_, _<_}
-use lib.ListN.{length, getD, take, replicate}
+use Prim.Native.Nat.{ℕ, suc, _+_, _-_, _<_}
+use lib.ListN.{length, replicate}
 use Rattle.term.specs.Reading.{readTerm}
 use Rattle.term.specs.declared.reading.Reading.the-variants.{Whole}
 use Rattle.tree.specs.Shape.{Shape, Up, On, loose}
 use Rattle.tree.specs.Promises.{Marked}
-use Rattle.book.specs.Rules.{Held, nothing, rule, Rules, isHeld, noRules, withRule, withoutRule, ruleCount, nodesOf, Added, Taken, judged, after}
-use Rattle.book.specs.Memory.{View, view, heldAt, leaf, Recorded, Passing, rulesIn}
+use Rattle.book.specs.Rules.{Held, nothing, rule, isHeld, withoutRule, ruleCount, nodesOf, Added, Taken, judged, after}
+use Rattle.book.specs.Memory.{View, view, leaf, Recorded, Passing, rulesIn}
 pub use Rattle.book.specs.declared.Removed.{Removed}
 pub use Rattle.book.specs.declared.Removed.the-variants.{Gone, NotHeld}
 

@@ -15,7 +15,7 @@ ghost use mathlib.Core.Path.{_≡_};
 ghost use Prim.Native.Nat.{_<_};
 ghost use lib.ListN.{length};
 ghost use Rattle.book.specs.Memory.{Passing, heldAt, view};
-ghost use Rattle.book.specs.Promises.{IsTerm, Empties, Checks, Adds, Removes, Shows, Counts, pickPlace, RecordChecked};
+ghost use Rattle.book.specs.Promises.{Empties, Shows, Counts, pickPlace};
 
 // What an add answers: the rule is taken; its number is held already (6); 512 rules are held (8); there would be more
 // than 4,096 nodes (9).

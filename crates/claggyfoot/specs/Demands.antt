@@ -4,26 +4,25 @@
 -- them asks anything of its caller (crates/claggyfoot/src/lib.rt). The promise of a batch is `Runs`: memory that does not pass is turned away;
 -- else what comes of it is `run`, a function of the set of rules, the cells and the room. The theorems here are about these two.
 use mathlib.Core.Path.{_≡_, refl, sym, ap, ap₂, _∙_, subst}
-use mathlib.Core.Logic.{_⊎_, inl, inr, _↔_}
-use mathlib.Core.List.{List, [], _∷_, _++_, append-nil, append-assoc, List·Memᴰ}
+use mathlib.Core.Logic.{inl, inr, _↔_}
+use mathlib.Core.List.{List, [], _∷_, _++_, append-assoc, List·Memᴰ}
 use Prim.Native.Nat.{ℕ, suc, _+_, _-_, _/_, _%_, _≤_, _<_}
 use native.Mathlib.Omega.{arith}
 use native.Mathlib.Decide.{ℕ-discrete, decLt}
 use lib.ListN.{length, take, drop}
 use lib.Seq.{take-at}
-use Rattle.term.specs.Questions.{Answers, instances, generalisations}
-use Rattle.term.specs.Cells.{blankForm}
+use Rattle.term.specs.Questions.{instances, generalisations}
 use Rattle.book.specs.Rules.{nothing, rule, Rules, withRule, ruleCount, nodesOf, addRefusal, judged}
 use Rattle.book.specs.Memory.{Passing, rulesIn}
 use Rattle.book.specs.Promises.{IsTerm, Empties, removal, removeRefusal}
-use Rattle.book.specs.Facts.{empty-passes, empty-rules, limited, empties-once}
+use Rattle.book.specs.Facts.{empty-passes, limited, empties-once}
 use Rattle.questions.specs.Asking.{Ordered, answers, Listed}
 use Rattle.questions.specs.Demand2.{WholeRules, lists, ordered, never-more, other-way-listed}
-use Rattle.batch.specs.Records.{Record, bare, good, cellsOf, written}
+use Rattle.batch.specs.Records.{Record, bare, good, written}
 use Rattle.batch.specs.declared.reader.Command.{Command}
 use Rattle.batch.specs.declared.reader.Command.the-variants.{Ask, Stops}
 use Rattle.batch.specs.Commands.{commandIn, termSize, stopOf, modeOf, Effect, shown, does}
-use Rattle.batch.specs.Run.{Outcome, ends, endsWith, goesOn, run}
+use Rattle.batch.specs.Run.{Outcome, ends, endsWith, run}
 use Rattle.batch.specs.Promises.{Read, Came, Ran, Turned-away, Runs, ran, turned-away, passing}
 use Rattle.batch.specs.Laws.{whole-behind, read-of, rest, run-10, run-stops, run-goes-on}
 use Rattle.claggyfoot.specs.Refusals.{Wrong, TakesTerm, FaultIs, Held-already, StopNumber, Ends, two, term-fault, six, eight, nine, seven-removed, seven-shown, refused-stays, batch-ends}

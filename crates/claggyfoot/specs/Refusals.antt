@@ -1,31 +1,28 @@
 -- Why the refusal table holds: each refusal comes exactly when its condition and the order say so.
-use mathlib.Core.Path.{_≡_, refl, sym, ap, _∙_, subst, fun-ext}
+use mathlib.Core.Path.{_≡_, refl, sym, ap, _∙_, subst}
 use mathlib.Core.Logic.{_⊎_, inl, inr, _↔_}
-use mathlib.Core.List.{List, [], _∷_, _++_}
+use mathlib.Core.List.{List, [], _∷_}
 use mathlib.Core.Bool.{Bool, true, false}
-use Prim.Native.Nat.{ℕ, zero, suc, _+_, _-_, _/_, _%_, _≤_, _<_}
+use Prim.Native.Nat.{ℕ, zero, suc, _-_, _/_, _%_, _≤_, _<_}
 use native.Mathlib.Omega.{arith}
 use native.Mathlib.Decide.{ℕ-discrete, decLt}
-use borrow.Author.Tests.{ltb-true, ltb-false, leb-true, leb-false, lt-ltb, le-ltb, le-leb, lt-leb, eq-eqb, ne-eqb}
-use lib.Dec.{eqb, leb, ltb}
+use borrow.Author.Tests.{ltb-true, leb-true, leb-false, lt-ltb, le-leb, lt-leb}
+use lib.Dec.{leb, ltb}
 use lib.ListN.{length, drop, length-drop}
 use Rattle.term.specs.Counting.{true≢false}
 use Rattle.term.specs.Reading.{readTerm, refusalOf}
-use Rattle.term.specs.Whole.{whole-term}
 use Rattle.term.specs.declared.reading.Fault.{Fault}
 use Rattle.term.specs.declared.reading.Fault.the-variants.{TooLong, CutShort, FieldSet, AboveFifteen, AboveCount}
 use Rattle.term.specs.declared.reading.Reading.{Reading}
 use Rattle.term.specs.declared.reading.Reading.the-variants.{Whole, Refused}
 use Rattle.book.specs.declared.Added.{Added}
 use Rattle.book.specs.declared.Added.the-variants.{Taken, HeldAlready, BookFull, NoNodes}
-use Rattle.book.specs.Rules.{Held, nothing, rule, Rules, isHeld, pickHeld, withRule, withoutRule, ruleCount, nodesOf, addRefusal, pickAdded, judged, after}
+use Rattle.book.specs.Rules.{Held, nothing, rule, Rules, isHeld, withRule, ruleCount, nodesOf, addRefusal, pickAdded, judged}
 use Rattle.book.specs.Promises.{removal, removeRefusal}
-use Rattle.batch.specs.Records.{Record}
 use Rattle.batch.specs.declared.reader.Command.{Command}
 use Rattle.batch.specs.declared.reader.Command.the-variants.{Add, Remove, Ask, Show, Room, Stops}
-use Rattle.batch.specs.Commands.{withTerm, commandOf, commandIn, termSize, stopOf, Change, Effect, changeOf, adds, changeAt, removes, shown, does}
-use Rattle.batch.specs.Run.{Outcome, ends, endsWith, goesOn, run}
-use Rattle.batch.specs.Promises.{Read}
+use Rattle.batch.specs.Commands.{withTerm, commandOf, commandIn, termSize, stopOf, Effect, changeOf, changeAt, shown, does}
+use Rattle.batch.specs.Run.{Outcome, ends, goesOn, run}
 use Rattle.batch.specs.Laws.{is-add, is-remove, is-ask, is-show, is-none, is-room, number-0, number-not-0, low-fault, read-of, size-inside, run-none, run-10, run-stops, run-goes-on}
 
 -- ---- what a command cell says: refusals 2 to 5

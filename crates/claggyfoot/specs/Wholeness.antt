@@ -1,5 +1,5 @@
 -- A command that was read leaves every rule with a whole term: the term that it adds was read as one.
-use mathlib.Core.Path.{_≡_, refl, sym, ap, _∙_, subst}
+use mathlib.Core.Path.{_≡_, subst}
 use mathlib.Core.List.{List, _∷_}
 use mathlib.Core.Bool.{Bool, true, false}
 use Prim.Native.Nat.{ℕ, _/_, _%_}
@@ -7,7 +7,7 @@ use native.Mathlib.Omega.{arith}
 use lib.Dec.{eqb}
 use Rattle.book.specs.declared.Added.{Added}
 use Rattle.book.specs.declared.Added.the-variants.{Taken, HeldAlready, BookFull, NoNodes}
-use Rattle.book.specs.Rules.{Held, nothing, rule, Rules, pickHeld, withRule, withoutRule, judged, after}
+use Rattle.book.specs.Rules.{nothing, rule, Rules, pickHeld, withRule, withoutRule, judged, after}
 use Rattle.book.specs.Gathered.{rule-inj, not-rule}
 use Rattle.book.specs.Promises.{IsTerm}
 use Rattle.questions.specs.Demand2.{WholeRules}

@@ -1,19 +1,19 @@
 -- Batches that look right and are not: each breaks the promise on one small input, an empty book and a few cells.
-use mathlib.Core.Path.{_≡_, refl, sym, ap, ap₂, _∙_, subst}
+use mathlib.Core.Path.{_≡_, refl, sym, ap, _∙_, subst}
 use mathlib.Core.List.{List, [], _∷_, _++_}
-use Prim.Native.Nat.{ℕ, zero, suc, _+_, _≤_, _<_}
+use Prim.Native.Nat.{ℕ, _+_}
 use native.Mathlib.Omega.{arith}
-use lib.ListN.{length, replicate, drop, length-replicate}
+use lib.ListN.{length, replicate, drop}
 use Rattle.term.specs.Reading.{readTerm, readFrom, takes}
 use Rattle.term.specs.Beginnings.{nodes}
 use Rattle.book.specs.Rules.{nothing, rule, Rules, each, noRules, withRule}
 use Rattle.book.specs.Gathered.{not-rule}
-use Rattle.book.specs.Memory.{Passing, rulesIn}
+use Rattle.book.specs.Memory.{rulesIn}
 use Rattle.book.specs.Facts.{empty-passes, empty-rules}
 use Rattle.questions.specs.Asking.{answers}
 use Rattle.batch.specs.Records.{Record, bare, good, written}
 use Rattle.batch.specs.Commands.{commandOf, does}
-use Rattle.batch.specs.Run.{Outcome, run, runFrom}
+use Rattle.batch.specs.Run.{run, runFrom}
 use Rattle.batch.specs.Promises.{Came, Runs, passing}
 
 -- The memory of an empty book.

@@ -1,16 +1,15 @@
 -- What is decided at a node is what the walk does there.
-use mathlib.Core.Path.{_≡_, refl, sym, ap, _∙_, subst}
-use mathlib.Core.Logic.{_⊎_, inl, inr}
+use mathlib.Core.Path.{_≡_, refl, sym, ap, _∙_}
+use mathlib.Core.Logic.{inl, inr}
 use mathlib.Core.List.{List}
 use mathlib.Core.Bool.{Bool, true, false}
-use Prim.Native.Nat.{ℕ, _+_, _≤_}
-use lib.ListN.{length}
+use Prim.Native.Nat.{ℕ}
 use Rattle.term.specs.Cells.{blankOf}
-use Rattle.term.specs.Machine.{State, failed, step, done}
+use Rattle.term.specs.Machine.{failed, step, done}
 use Rattle.term.specs.Steps.{spot, Stepped}
 use Rattle.tree.specs.Words.{cellOf, firstOf}
-use Rattle.questions.specs.Walk.{Walk, reading, listed, onDone, next, good}
-use Rattle.questions.specs.Promises.{walkBefore, walkAfter, Goes, Turned}
+use Rattle.questions.specs.Walk.{reading, listed, onDone, good}
+use Rattle.questions.specs.Promises.{walkBefore, walkAfter, Turned}
 
 module _ (fq fr : Bool) (q : List ℕ) (w k p : ℕ) where
   after-is : (b : Bool) → b ≡ done (spot q true k p) → walkAfter fq fr q w k p ≡ onDone b (reading (step fq fr (blankOf (cellOf w)) (spot q true k p)))

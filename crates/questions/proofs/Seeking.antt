@@ -1,13 +1,12 @@
 -- A symbol that is not the one wanted is met by no cell of the question that can't be filled: the machine fails there.
 use mathlib.Core.Path.{_≡_, refl, sym, ap, ap₂, _∙_, subst}
 use mathlib.Core.Logic.{_⊎_, inl, inr}
-use mathlib.Core.List.{List, [], _∷_, map}
-use mathlib.Core.Bool.{Bool, true, false}
+use mathlib.Core.List.{List, [], _∷_}
+use mathlib.Core.Bool.{Bool, false}
 use Prim.Native.Nat.{ℕ, zero, suc, _+_, _/_, _^_, _≤_, _<_}
 use native.Mathlib.Omega.{arith}
 use native.Mathlib.Decide.{ℕ-discrete, decLt}
 use borrow.Author.Tests.{lt-ltb, le-ltb, ne-eqb}
-use lib.Dec.{ltb, eqb}
 use lib.ListN.{length, getD, drop}
 use Rattle.term.specs.Cells.{Cell, symb, star, Row, Blank, pickCell, blankOf, blankForm}
 use Rattle.term.specs.Machine.{failed, at, past, meet, onlyIf}

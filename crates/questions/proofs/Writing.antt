@@ -1,17 +1,14 @@
 -- Writing the list: up to each mark the numbers before it stand in front, and the cells behind them are as they were.
-use mathlib.Core.Path.{_≡_, refl, sym, ap, ap₂, _∙_, subst}
-use mathlib.Core.Logic.{_⊎_, inl, inr, _↔_}
+use mathlib.Core.Path.{_≡_, refl, sym, ap, ap₂, _∙_}
+use mathlib.Core.Logic.{_⊎_, inl, inr}
 use mathlib.Core.List.{List, [], _∷_, _++_, append-assoc}
 use mathlib.Core.Bool.{Bool, true, false}
-use Prim.Native.Nat.{ℕ, zero, suc, _+_, _-_, _*_, _/_, _%_, _^_, _≤_, _<_}
+use Prim.Native.Nat.{ℕ, zero, suc, _+_, _-_, _≤_, _<_}
 use native.Mathlib.Omega.{arith}
-use native.Mathlib.Nat.{zero-div}
-use native.Mathlib.Decide.{decLt}
 use borrow.Author.Tests.{eqb-true, eq-eqb}
-use lib.Dec.{eqb}
-use lib.ListN.{length, getD, set, drop, replicate, length-append, length-drop, length-set, getD-replicate, length-replicate, List·getD-eq-default}
+use lib.ListN.{length, getD, set, drop, replicate, length-append, length-drop}
 use Rattle.bits.specs.Packed.{bits, First}
-use Rattle.bits.specs.Laws.{length-bits, get-bit}
+use Rattle.bits.specs.Laws.{length-bits}
 use Rattle.term.specs.Counting.{true≢false}
 use Rattle.tree.specs.Tally.{marked}
 use Rattle.tree.specs.Tallies.{tally-le, no-mark}

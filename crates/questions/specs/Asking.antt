@@ -1,6 +1,6 @@
 -- What a question lists: demand 2. The numbers of the rules that answer, ascending, each once.
 use mathlib.Core.Path.{_≡_}
-use mathlib.Core.List.{List, [], _∷_, _++_}
+use mathlib.Core.List.{List, [], _∷_}
 use mathlib.Core.Bool.{Bool, true, false}
 use Prim.Native.Nat.{ℕ, _<_}
 use Rattle.term.specs.Cells.{blankForm}

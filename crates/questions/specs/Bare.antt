@@ -1,14 +1,14 @@
 -- The question 8000, a bare variable: all rules are its instances and its unifiables, and only bare variables its variants and generalisations.
-use mathlib.Core.Path.{_≡_, refl, sym, ap, _∙_, subst}
-use mathlib.Core.List.{List, [], _∷_, _++_, append-nil, List·Memᴰ}
-use Prim.Native.Nat.{ℕ, zero, suc, _+_, _<_}
+use mathlib.Core.Path.{_≡_, refl, sym, ap, _∙_}
+use mathlib.Core.List.{List, [], _∷_, append-nil, List·Memᴰ}
+use Prim.Native.Nat.{ℕ, suc, _<_}
 use native.Mathlib.Omega.{arith}
-use Rattle.term.specs.Cells.{Cell, Row, Blank, blank, vari, symb, star, Terms, none, more, blankForm}
-use Rattle.term.specs.Questions.{Mode, variants, instances, generalisations, unifiables, Filling, fill, Answers}
+use Rattle.term.specs.Cells.{Row, Blank, blank, vari, symb, star, Terms, none, more, blankForm}
+use Rattle.term.specs.Questions.{variants, instances, generalisations, unifiables, Filling, fill, Answers}
 use Rattle.book.specs.Rules.{Rules, rule}
 use Rattle.book.specs.Gathered.{rule-inj}
 use Rattle.book.specs.Promises.{IsTerm}
-use Rattle.questions.specs.Asking.{answers, Listed}
+use Rattle.questions.specs.Asking.{answers}
 use Rattle.questions.specs.Demand2.{WholeRules, term-form, lists}
 
 -- the question, and that it is a whole term

@@ -1,24 +1,22 @@
 -- A question lists exactly the rules that answer it by the published meaning, in order and each once.
 use mathlib.Core.Path.{_≡_, refl, sym, ap, _∙_, subst}
-use mathlib.Core.Logic.{_⊎_, inl, inr, _↔_}
-use mathlib.Core.List.{List, [], _∷_, _++_, List·Memᴰ, List·Memᴰ·head, List·Memᴰ·tail, List·Memᴰ·not-nil, List·Memᴰ·eq-of-singleton, List·Memᴰ·append-cases}
+use mathlib.Core.Logic.{_↔_}
+use mathlib.Core.List.{List, _++_, List·Memᴰ, List·Memᴰ·head, List·Memᴰ·not-nil, List·Memᴰ·eq-of-singleton}
 use mathlib.Core.Bool.{Bool, true, false}
 use Prim.Native.Nat.{ℕ, zero, suc, _+_, _≤_, _<_}
 use native.Mathlib.Omega.{arith}
 use lib.Dec.{T}
 use lib.ListN.{length, length-append}
 use lib.Seq.{take-length}
-use Rattle.term.specs.Cells.{Row, Blank, Terms, blankForm}
+use Rattle.term.specs.Cells.{Terms, blankForm}
 use Rattle.term.specs.Questions.{Mode, Answers, instances, generalisations}
 use Rattle.term.specs.Machine.{accepts}
 use Rattle.term.specs.Meaning.{decides, other-way}
-use Rattle.term.specs.Reading.{readTerm}
-use Rattle.term.specs.declared.reading.Reading.the-variants.{Whole}
 use Rattle.term.specs.Whole.{whole-term}
 use Rattle.book.specs.Rules.{Held, nothing, rule, Rules, each, termsOf, ruleCount}
-use Rattle.book.specs.Gathered.{Gathered, of-each, to-each, rule-inj}
+use Rattle.book.specs.Gathered.{of-each, to-each, rule-inj}
 use Rattle.book.specs.Promises.{IsTerm}
-use Rattle.questions.specs.Asking.{before, BeforeAll, Ordered, keepIf, answering, answers, Listed}
+use Rattle.questions.specs.Asking.{BeforeAll, Ordered, keepIf, answering, answers, Listed}
 
 -- All rules have whole terms.
 abbrev pub WholeRules : Rules → Type 0

@@ -1,7 +1,7 @@
 -- The marked numbers in order: what a walk from mark to mark writes, how many they are, and that they are the answers.
-use mathlib.Core.Path.{_≡_, refl, sym, ap, ap₂, _∙_, subst}
-use mathlib.Core.Logic.{_⊎_, inl, inr, _↔_}
-use mathlib.Core.List.{List, [], _∷_, _++_, append-nil, List·Memᴰ}
+use mathlib.Core.Path.{_≡_, refl, sym, ap, _∙_, subst}
+use mathlib.Core.Logic.{_↔_}
+use mathlib.Core.List.{List, _++_, append-nil, List·Memᴰ}
 use mathlib.Core.Bool.{Bool, true, false}
 use Prim.Native.Nat.{ℕ, zero, suc, _+_, _-_, _*_, _≤_, _<_}
 use native.Mathlib.Omega.{arith}
@@ -17,14 +17,14 @@ use Rattle.term.specs.Machine.{accepts, fillsQuestion, fillsRule}
 use Rattle.term.specs.Counting.{true≢false}
 use Rattle.tree.specs.Tally.{bit, tally, marked}
 use Rattle.tree.specs.Tallies.{map-tally}
-use Rattle.book.specs.Rules.{Held, nothing, rule, Rules, each}
+use Rattle.book.specs.Rules.{Held, nothing, rule, each}
 use Rattle.book.specs.Gathered.{each-same, each-split, each-none, rule-inj, not-rule}
 use Rattle.book.specs.Memory.{Passing, rulesIn}
 use Rattle.book.specs.Promises.{IsTerm}
 use Rattle.book.specs.Facts.{limited}
 use Rattle.questions.specs.Asking.{keepIf, numbers, answering, answers, Listed}
 use Rattle.questions.specs.Demand2.{lists}
-use Rattle.questions.specs.Promises.{Answering, Asked}
+use Rattle.questions.specs.Promises.{Asked}
 
 module _ (u : ℕ → Bool) where
   -- from one mark to the next

@@ -1,29 +1,26 @@
 -- The machine on the rows of the book's tree: where it is done, what hangs there are the rules that answer.
-use mathlib.Core.Path.{_≡_, refl, sym, ap, ap₂, _∙_, subst}
-use mathlib.Core.Logic.{_⊎_, inl, inr, _↔_}
+use mathlib.Core.Path.{_≡_, refl, sym, ap, _∙_, subst}
 use mathlib.Core.List.{List, [], _∷_, _++_, map, append-nil, append-assoc, reverse, reverse-reverse, List·Memᴰ, Memᴰ·map, Memᴰ·of-map}
 use mathlib.Core.Bool.{Bool, true, false}
-use Prim.Native.Nat.{ℕ, zero, suc, _+_, _-_, _≤_, _<_}
+use Prim.Native.Nat.{ℕ, suc, _+_, _-_, _<_}
 use native.Mathlib.Omega.{arith}
 use native.Mathlib.Decide.{decLt}
 use lib.Dec.{T}
-use lib.ListN.{length, length-append}
-use Rattle.term.specs.Cells.{Cell, Row, Blank, vari, symb, Proper, Terms, blankOf, blankForm, pickCell, star}
+use Rattle.term.specs.Cells.{Row, Blank, Proper, Terms, blankOf, blankForm}
 use Rattle.term.specs.Machine.{State, failed, at, step, run, done}
 use Rattle.term.specs.Matching.{AllProper, accepted-whole}
 use Rattle.term.specs.Counting.{true≢false}
 use Rattle.term.specs.Preorder.{same-rest}
-use Rattle.term.specs.Beginnings.{Begins}
-use Rattle.tree.specs.Shape.{Shape, Used, Up, Tree}
+use Rattle.tree.specs.Shape.{Shape, Used, Up}
 use Rattle.tree.specs.Trie.{Trie, tip, node, trie, Bounded}
-use Rattle.tree.specs.Search.{keep, hits, found-good, good-found}
+use Rattle.tree.specs.Search.{hits, found-good, good-found}
 use Rattle.tree.specs.Search as search
-use Rattle.tree.specs.Leaves.{Leaf, bases, Hanging, numbered}
+use Rattle.tree.specs.Leaves.{Leaf, numbered}
 use Rattle.tree.specs.Rows.{passes-tree, up-same}
-use Rattle.book.specs.Memory.{View, view, taken, number, term, form, formOf, leaf, leaves, rulesOf, Right}
+use Rattle.book.specs.Memory.{View, taken, number, term, form, leaf, leaves, Right}
 use Rattle.book.specs.Rules.{rule}
 use Rattle.book.specs.Forms.{form-row}
-use Rattle.book.specs.Holding.{hanging, term-at, taken-leaf, at-holds, holds-at}
+use Rattle.book.specs.Holding.{hanging, term-at, taken-leaf}
 use Rattle.book.specs.Forms as forms
 
 -- Reading on; or done one cell ago, so that this cell is the number of a rule that answers.

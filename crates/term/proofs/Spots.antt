@@ -2,13 +2,13 @@
 use mathlib.Core.Path.{_≡_, refl, sym, ap, _∙_}
 use mathlib.Core.List.{List, [], _∷_}
 use mathlib.Core.Bool.{Bool, true, false}
-use Prim.Native.Nat.{ℕ, zero, suc, _+_, _-_, _/_, _≤_, _<_}
+use Prim.Native.Nat.{ℕ, zero, suc, _+_, _-_, _≤_, _<_}
 use native.Mathlib.Numerals.{add-one}
 use native.Mathlib.Omega.{arith}
 use lib.Dec.{ltb, leb}
 use lib.ListN.{length, length-map, getD, drop, drop-of-length-le}
 use borrow.Author.Tests.{lt-ltb, le-ltb, eq-eqb, ne-eqb, ltb-true, ltb-false, leb-true, leb-false}
-use Rattle.term.specs.Cells.{Cell, Row, Blank, star, symb, arity, pickCell, blankOf, blankForm}
+use Rattle.term.specs.Cells.{Row, Blank, star, symb, arity, pickCell, blankOf, blankForm}
 use Rattle.term.specs.Machine.{State, failed, at, past, step, run, done}
 use Rattle.term.specs.Steps.{spot, Passed, Stepped}
 

@@ -1,16 +1,15 @@
 -- The reading, turn by turn, in the numbers that the loop has: each way out and the way on is one clause of `readFrom`.
-use mathlib.Core.Path.{_≡_, refl, sym, ap, _∙_, subst}
+use mathlib.Core.Path.{_≡_, refl, sym, _∙_, subst}
 use mathlib.Core.List.{List, [], _∷_}
 use mathlib.Core.Bool.{Bool, true, false}
 use Prim.Native.Nat.{ℕ, zero, suc, _+_, _-_, _/_, _≤_, _<_}
 use native.Mathlib.Numerals.{add-one}
-use native.Mathlib.Nat.{add-comm}
 use native.Mathlib.Omega.{arith}
 use borrow.Author.Tests.{ltb-true}
 use lib.Dec.{ltb, leb}
 use lib.ListN.{length, drop, getD}
 use lib.Seq.{drop-cons}
-use Rattle.term.specs.Reading.{Reading, Fault, Taken, Wants, Faulty, Whole, Refused, TooLong, CutShort, pickTaken, variable, takes, goOn, readFrom}
+use Rattle.term.specs.Reading.{Fault, Taken, Wants, Faulty, Whole, Refused, TooLong, CutShort, pickTaken, takes, goOn, readFrom}
 
 -- A cell calls for at most 7 arguments.
 asked : Taken → ℕ

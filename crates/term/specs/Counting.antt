@@ -4,11 +4,11 @@ use mathlib.Core.Path.{_≡_, refl, sym, ap, ap₂, _∙_, subst}
 use mathlib.Core.Logic.{_⊎_, inl, inr, _↔_}
 use mathlib.Core.List.{List, [], _∷_, _++_, map, List·Memᴰ, List·Memᴰ·head, List·Memᴰ·tail, List·Memᴰ·cases-cons, List·Memᴰ·append-cases, List·Memᴰ·not-nil, Memᴰ·append-left, Memᴰ·append-right, Memᴰ·cast, Memᴰ·map, Memᴰ·of-map}
 use mathlib.Core.Bool.{Bool, true, false, not}
-use Prim.Native.Nat.{ℕ, zero, suc, _+_, _≤_}
+use Prim.Native.Nat.{ℕ, suc, _+_}
 use native.Mathlib.Omega.{arith}
 use lib.ListN.{length}
 use Rattle.term.specs.Beginnings.{inits, beginnings, both, either, putIf, sameRow, has, different, nodes, Distinct, Begins}
-use Rattle.term.specs.Distinct.{put-member, put-keeps, put-adds, put-distinct, as-many, no-more, distinct-map}
+use Rattle.term.specs.Distinct.{put-member, put-keeps, put-adds, put-distinct, as-many, distinct-map}
 
 pub cons-eq : {A : Type 0} {a b : A} {x y : List A} → a ≡ b → x ≡ y → a ∷ x ≡ b ∷ y
 cons-eq {A} p q = ap₂ {C = List A} _∷_ p q

@@ -1,6 +1,6 @@
 -- The matching machine: it reads a rule's cells from left to right and decides all four questions in one pass, without
 -- looking for a filling. `Meaning` proves that it accepts exactly the rules that answer.
-use mathlib.Core.List.{List, [], _∷_}
+use mathlib.Core.List.{[], _∷_}
 use mathlib.Core.Bool.{Bool, true, false}
 use Prim.Native.Nat.{ℕ, zero, suc, _+_, _/_}
 use lib.Dec.{eqb}

@@ -1,13 +1,13 @@
 -- The machine accepts exactly where `Match` relates the two rows: cell by cell, or a blank with one whole term.
 use mathlib.Core.Path.{_≡_, refl, sym, ap, _∙_, subst}
 use mathlib.Core.Logic.{_↔_}
-use mathlib.Core.List.{List, [], _∷_, _++_}
+use mathlib.Core.List.{[], _∷_, _++_}
 use mathlib.Core.Bool.{Bool, true, false}
 use Prim.Native.Nat.{ℕ, zero, suc, _+_, _/_}
 use native.Mathlib.Nat.{zero-add, suc-add, add-assoc}
 use lib.Dec.{T, eqb, eqb→eq, eqb-refl}
 use Rattle.term.specs.Cells.{Cell, vari, symb, Row, Blank, blank, star, arity, Proper, Terms, none, more}
-use Rattle.term.specs.Machine.{State, failed, at, past, onlyIf, meet, step, run, done}
+use Rattle.term.specs.Machine.{State, failed, at, past, onlyIf, step, run, done}
 use Rattle.term.specs.Preorder.{recount, head-cell, open-row, not-empty, none-empty, one-term, arguments, cut, past-terms}
 
 pub data Match (fq fr : Bool) : Row Blank → Row Blank → Type 0 where

@@ -1,16 +1,16 @@
 -- The machine answers each of the four questions: what it matches is what some filling gives, and the other way round.
 use mathlib.Core.Path.{_≡_, refl, sym, ap, _∙_, subst}
 use mathlib.Core.Logic.{_↔_}
-use mathlib.Core.List.{List, [], _∷_, _++_, append-assoc, head-eq-of-cons-eq, tail-eq-of-cons-eq}
-use mathlib.Core.Bool.{Bool, true, false}
-use Prim.Native.Nat.{ℕ, zero, suc, _+_, _/_, _≤_, _<_}
-use native.Mathlib.Nat.{zero-add, suc-add, add-assoc, add-zero}
+use mathlib.Core.List.{[], _∷_, _++_, append-assoc, head-eq-of-cons-eq, tail-eq-of-cons-eq}
+use mathlib.Core.Bool.{true, false}
+use Prim.Native.Nat.{ℕ, zero, suc, _+_, _/_, _≤_}
+use native.Mathlib.Nat.{zero-add}
 use native.Mathlib.Omega.{arith}
 use lib.Dec.{T}
-use lib.ListN.{length, length-append}
-use Rattle.term.specs.Cells.{Cell, vari, symb, Row, Blank, blank, star, arity, Proper, Terms, none, more}
+use lib.ListN.{length}
+use Rattle.term.specs.Cells.{Cell, vari, symb, Row, Blank, blank, star, Terms, none, more}
 use Rattle.term.specs.Questions.{Filling, fill, Mode, variants, instances, generalisations, unifiables, Answers}
-use Rattle.term.specs.Machine.{accepts, fillsQuestion, fillsRule}
+use Rattle.term.specs.Machine.{accepts}
 use Rattle.term.specs.Preorder.{recount, Cut, cut, terms-append, no-cell, empty-none, open-row, shorter, same-rest}
 use Rattle.term.specs.Matching.{Match, end, both, left, right, flip, machine}
 

@@ -1,11 +1,11 @@
 -- Rows in preorder: a row of k + n terms is cut in one way, and no term is the beginning of another. Over any kind of variable.
 use mathlib.Core.Path.{_≡_, refl, sym, ap, _∙_, subst}
-use mathlib.Core.List.{List, [], _∷_, _++_, head-eq-of-cons-eq, tail-eq-of-cons-eq}
-use Prim.Native.Nat.{ℕ, zero, suc, _+_, _/_, _≤_, _<_}
+use mathlib.Core.List.{[], _∷_, _++_, head-eq-of-cons-eq, tail-eq-of-cons-eq}
+use Prim.Native.Nat.{ℕ, zero, suc, _+_, _≤_, _<_}
 use native.Mathlib.Nat.{zero-add, suc-add, add-assoc, add-zero}
 use native.Mathlib.Omega.{arith}
 use lib.ListN.{length, length-append}
-use Rattle.term.specs.Cells.{Cell, vari, symb, Row, arity, Proper, Terms, none, more}
+use Rattle.term.specs.Cells.{Cell, Row, arity, Proper, Terms, none, more}
 use Rattle.term.specs.Machine.{past}
 
 module _ {X : Type 0} where

@@ -1,8 +1,8 @@
 -- The four questions: 01, 'The four questions', line by line. These four lines are what demand 2 means.
 use mathlib.Core.Path.{_≡_}
-use mathlib.Core.List.{List, [], _∷_, _++_}
+use mathlib.Core.List.{[], _∷_, _++_}
 use Prim.Native.Nat.{ℕ, suc}
-use Rattle.term.specs.Cells.{Cell, vari, symb, Row, Blank, Terms}
+use Rattle.term.specs.Cells.{vari, symb, Row, Blank, Terms}
 
 -- A filling gives each blank, counted from the left, a blank form of its own. It has no length limit.
 pub record Filling : Type 0 where

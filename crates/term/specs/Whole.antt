@@ -2,14 +2,14 @@
 use mathlib.Core.Path.{_≡_, refl, sym, ap, _∙_, subst}
 use mathlib.Core.List.{List, [], _∷_, _++_, map}
 use mathlib.Core.Bool.{Bool, true, false}
-use Prim.Native.Nat.{ℕ, zero, suc, _+_, _-_, _/_, _≤_, _<_}
-use native.Mathlib.Nat.{add-zero, add-suc}
+use Prim.Native.Nat.{ℕ, zero, suc, _+_, _-_, _≤_}
+use native.Mathlib.Nat.{add-zero}
 use native.Mathlib.Omega.{arith}
-use borrow.Author.Tests.{ltb-true, ltb-false, lt-ltb, le-ltb}
+use borrow.Author.Tests.{ltb-true}
 use lib.Dec.{ltb, leb}
 use lib.ListN.{length, take}
-use Rattle.term.specs.Cells.{Cell, vari, symb, Row, Blank, star, arity, Proper, Terms, none, more, blanked, pickCell, cellOf, termOf, blankOf, blankForm}
-use Rattle.term.specs.Reading.{Reading, Whole, Refused, Fault, Taken, Wants, Faulty, FieldSet, AboveFifteen, AboveCount, pickTaken, variable, takes, goOn, readFrom, readTerm}
+use Rattle.term.specs.Cells.{vari, symb, Row, star, arity, Proper, Terms, none, more, blanked, pickCell, cellOf, termOf, blankOf, blankForm}
+use Rattle.term.specs.Reading.{Whole, Refused, Fault, Taken, Wants, Faulty, pickTaken, takes, goOn, readFrom, readTerm}
 use Rattle.term.specs.Preorder.{recount, not-empty}
 
 -- A cell of a term and the same cell of its blank form.

@@ -1,5 +1,5 @@
 -- The check decides passing, both ways: links may be followed whatever nodes are used, as in the end the marks are compared with the used ones
-use mathlib.Core.Path.{_≡_, refl, sym, _∙_, subst}
+use mathlib.Core.Path.{_≡_, refl, sym, _∙_}
 use mathlib.Core.Logic.{_↔_}
 use mathlib.Core.List.{List, [], reverse, List·Memᴰ, List·Memᴰ·not-nil}
 use mathlib.Core.Bool.{true, false}

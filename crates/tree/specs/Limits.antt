@@ -18,7 +18,6 @@ use Rattle.tree.specs.Rows.{row-short}
 use Rattle.tree.specs.Trie.{Bounded}
 use Rattle.tree.specs.Tally.{tally, marked}
 use Rattle.tree.specs.Tallies.{tally-same, map-tally}
-use Rattle.tree.specs.NodeCount.{node-count, Numbered, nodes-are}
 use Rattle.tree.specs.Words.{word, shape, place}
 use Rattle.tree.specs.Check.{empty-passes}
 
@@ -62,18 +61,6 @@ module _ (ws : List ℕ) (size : length ws ≡ 4681) where
   live-low zero v = omega arith
   live-low (suc n) v = used-low n v
 
-  pub uses-low : (l : ℕ) → uses (shape ws) l ≡ true → (0 < l) × (l ≤ 4608)
-  uses-low zero e = absurd (true≢false e refl)
-  uses-low (suc n) e = let h = used-low n e in (omega arith, omega arith)
-
-  -- no link past the last node is that of a used one
-  pub uses-high : (l : ℕ) → 4608 < l → uses (shape ws) l ≡ false
-  uses-high l h = go (uses (shape ws) l) refl
-    where
-      go : (b : Bool) → uses (shape ws) l ≡ b → b ≡ false
-      go true e = let q = uses-low l e in absurd (omega arith)
-      go false e = refl
-
   pub place-low : (p b : ℕ) → Valid (shape ws) (place p b) → b ≤ 4608
   place-low p zero v = omega arith
   place-low p (suc k) v = used-low k v
@@ -86,13 +73,6 @@ module _ (ws : List ℕ) (size : length ws ≡ 4681) where
   rules-held =
       marks-held (ruleMap ws) 8 (omega (arith, length-take 8 (drop 64 ws), length-drop 64 ws))
       ∙ tally-same (λ r. shape ws .used (4096 + r)) (marked (ruleMap ws)) 512 (λ r h. rule-bit ws r h)
-
-  pub all-held : sum (bits (take 72 ws)) ≡ tally (shape ws .used) 4608
-  all-held = marks-held (take 72 ws) 72 map-long
-
-  -- so the count of the nodes' bits is the node count of the forms
-  pub held-nodes : (fs : List (List ℕ)) → Numbered (shape ws) fs → sum (bits (nodeMap ws)) ≡ node-count fs
-  held-nodes fs h = nodes-held ∙ sym (nodes-are (shape ws) fs h)
 
   pub bounded : ((l : ℕ) → word ws l < 2 ^ 64) → (ends : List End) → Passes (shape ws) ends → Short (forms ends) → Bounded (shape ws)
   bounded fits ends c s = record { small = λ n u. omega (arith, fits (suc n)); shallow = row-short c s }

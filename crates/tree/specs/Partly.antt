@@ -198,10 +198,6 @@ pub left-of : {m : Shape} {old ends : List End} → Passes m old → PrefixFree 
     → ((y : End) → List·Memᴰ y ends → ¬ (y .last ≡ x .last)) → Left m ends (suc (x .last))
 left-of c pf x j apart = record { row = reverse (x .form); partly = begin-remove c x j; free = λ y i o. apart y i (end-on c pf y x (j .kept y i) (j .joined) o) }
 
--- and where one has it, nothing needs to go
-pub left-end : {m : Shape} {old ends : List End} → Passes m old → (x : End) → Joins x ends old → (y : End) → List·Memᴰ y ends → y .last ≡ x .last → Passes m ends
-left-end {m} c x j y i e = ended-on (begin-remove c x j) (record { end = y; among = i; on = subst (λ (z : ℕ). On m (x .last) (suc z)) (sym e) here })
-
 -- what is said of nodes that are not on the way up stays, and a rule that had no child is gone
 pub trimmed-kept : {m m′ : Shape} {ends : List End} {l : ℕ} → Trimmed m l m′ → Left m ends l → (y : ℕ) → ¬ (On m y l)
     → (m′ .used y ≡ m .used y) × (m′ .cell y ≡ m .cell y)

@@ -7,9 +7,9 @@ use Prim.Native.Nat.{ℕ, suc, _+_, _-_, _≤_, _<_}
 use native.Mathlib.Omega.{arith}
 use lib.ListN.{length, take, drop, take-append-drop, length-drop, length-reverse}
 use lib.Seq.{drop-cons}
-use Rattle.tree.specs.Shape.{Up, Tree, End, Passes, Shape, down, On, Covered}
+use Rattle.tree.specs.Shape.{Up, End, Passes, Shape, down, On, Covered}
 use Rattle.tree.specs.Rows.{up-same, on-row}
-use Rattle.tree.specs.Partly.{Partly, begin-add, grown-partly, grown-old, grown-up, on-short}
+use Rattle.tree.specs.Partly.{Partly, begin-add, grown-partly, on-short}
 use Rattle.tree.specs.Tally.{tally}
 use Rattle.tree.specs.NodeCount.{node-count, nodes-more}
 use Rattle.tree.specs.Leaves.{Leaf, bases, Hanging, inner, numbered, endOf, ends}
@@ -19,13 +19,6 @@ use Rattle.tree.specs.Promises.{Absent, Planted}
 module _ (ws ws′ form : List ℕ) (link : ℕ) (p : Planted ws ws′ form link) where
   whole : reverse (drop (p .depth) form) ++ reverse (take (p .depth) form) ≡ reverse form
   whole = sym (reverse-append (take (p .depth) form) (drop (p .depth) form)) ∙ ap reverse (take-append-drop (p .depth) form)
-
-  -- all rows stay, and the link has the form's
-  pub planted-old : Tree (shape ws) → ¬ (link ≡ 0) → {l : ℕ} {r : List ℕ} → Up (shape ws) l r → Up (shape ws′) l r
-  planted-old t h u = grown-old t (p .grown h) u
-
-  pub planted-up : Tree (shape ws) → ¬ (link ≡ 0) → Up (shape ws′) link (reverse form)
-  planted-up t h = subst (λ (z : List ℕ). Up (shape ws′) link z) whole (grown-up t (p .grown h) (p .descended .at))
 
   pub planted-partly : ¬ (link ≡ 0) → (es : List End) → Passes (shape ws) es → Partly (shape ws′) es link (reverse form)
   planted-partly h es c = subst (λ (z : List ℕ). Partly (shape ws′) es link z) whole (grown-partly (p .grown h) (begin-add c (p .descended .at)))

@@ -107,16 +107,6 @@ pub row-short : {m : Shape} {ends : List End} → Passes m ends → Short (forms
 row-short c s n r u =
     let b = row-begins c u in omega (arith, sym (length-append (reverse r) (b .rest)) ∙ ap length (b .is), length-reverse r, s (b .form) (b .among))
 
--- a node whose row is a whole form, which no form goes on, is the last one of an end with that form
-pub whole-end : {m : Shape} {ends : List End} → Passes m ends → (form : List ℕ) → ((g s : List ℕ) → List·Memᴰ g (forms ends) → form ++ s ≡ g → s ≡ [])
-    → (n : ℕ) → Up m (suc n) (reverse form) → (x : End) × List·Memᴰ x ends × (x .last ≡ n) × (x .form ≡ form)
-whole-end {m} {ends} c form whole n u =
-    let b = row-begins c u in
-    let x = Memᴰ·of-map (λ (y : End). y .form) ends (b .among) in
-    let is : form ++ b .rest ≡ b .form = ap (λ (z : List ℕ). z ++ b .rest) (sym (reverse-reverse form)) ∙ b .is in
-    let same : form ≡ x .0 .form = sym (append-nil form) ∙ ap (λ (z : List ℕ). form ++ z) (sym (whole (b .form) (b .rest) (b .among) is)) ∙ is ∙ sym (x .2) in
-    (x .0, x .1, suc-inj (up-one (passes-tree c) (c .ways (x .0) (x .1)) (subst (λ (z : List ℕ). Up m (suc n) (reverse z)) same u)), sym same)
-
 -- ---- where no form is a proper beginning of another
 
 module _ {m : Shape} {ends : List End} (c : Passes m ends) (free : PrefixFree (forms ends)) where

@@ -1,13 +1,12 @@
 -- A search over the unfolded tree that keeps a state: it finds exactly the used nodes whose row is accepted, with one point a level on its list
 use mathlib.Core.Path.{_≡_, refl, sym, ap, _∙_, subst}
-use mathlib.Core.Logic.{_⊎_, inl, inr, _↔_}
-use mathlib.Core.List.{List, [], _∷_, _++_, map, append-assoc, reverse, reverse-cons, reverse-reverse, List·Memᴰ, List·Memᴰ·head, List·Memᴰ·tail, List·Memᴰ·cases-cons, List·Memᴰ·append-cases, List·Memᴰ·not-nil, Memᴰ·append-left, Memᴰ·append-right, Memᴰ·cast, Memᴰ·map}
+use mathlib.Core.Logic.{_⊎_, inl, inr}
+use mathlib.Core.List.{List, [], _∷_, _++_, map, append-assoc, reverse, reverse-cons, List·Memᴰ, List·Memᴰ·head, List·Memᴰ·tail, List·Memᴰ·cases-cons, List·Memᴰ·append-cases, List·Memᴰ·not-nil, Memᴰ·append-left, Memᴰ·append-right, Memᴰ·cast, Memᴰ·map}
 use mathlib.Core.Bool.{Bool, true, false}
 use Prim.Native.Nat.{ℕ, zero, suc, _+_, _≤_, _<_}
 use native.Mathlib.Omega.{arith}
 use Rattle.term.specs.Beginnings.{Distinct}
-use Rattle.tree.specs.Shape.{Shape, Used, Up, Tree, End, Passes}
-use Rattle.tree.specs.Rows.{up-same, passes-tree}
+use Rattle.tree.specs.Shape.{Shape, Used, Up, Tree}
 use Rattle.tree.specs.Trie.{Trie, tip, node, trie, rows, height, Bounded, FUEL}
 use Rattle.tree.specs.Unfolded.{no-trie, opens, holds, node-once}
 
@@ -113,15 +112,6 @@ module _ {S : Type 0} (step : ℕ → S → S) (good : S → Bool) where
     pub found-once : Distinct found
     found-once = subst (λ (l : List ℕ). Distinct l) (sym (hits-are m s [] (trie m (m .first 0)))) (accepted-distinct s (rows m [] (trie m (m .first 0))) (node-once m t b))
 
-  -- an end's last node is found exactly when its form is accepted
-  pub end-found : (m : Shape) (ends : List End) (c : Passes m ends) (b : Bounded m) (s : S) (x : End) → List·Memᴰ x ends
-      → List·Memᴰ (x .last) (hits m s (trie m (m .first 0))) ↔ (good (run s (x .form)) ≡ true)
-  end-found m ends c b s x i = (
-    (λ j. let q = found-good m (passes-tree c) b s (x .last) j in
-        ap (λ (z : List ℕ). good (run s z)) (sym (reverse-reverse (x .form))) ∙ ap (λ (z : List ℕ). good (run s (reverse z))) (up-same (c .ways x i) (q .1)) ∙ q .2),
-    (λ h. good-found m (passes-tree c) b s (x .last) (reverse (x .form)) (c .ways x i) (ap (λ (z : List ℕ). good (run s z)) (reverse-reverse (x .form)) ∙ h)),
-  )
-
   -- ---- the list of points: point j is the link at j with the state before it
 
   module _ (m : Shape) where
@@ -154,12 +144,6 @@ module _ {S : Type 0} (step : ℕ → S → S) (good : S → Bool) where
       module _ (n : ℕ) (e : at k ≡ suc n) (u : Used m n) where
         opened : trie m (at k) ≡ node n (trie m (m .first (suc n))) (trie m (m .next n))
         opened = ap (trie m) e ∙ opens m t b n u
-
-        -- the state fails: the sibling takes the node's place
-        pub fail-gives : {at′ : ℕ → ℕ} {st′ : ℕ → S} → at′ k ≡ m .next n → st′ k ≡ st k → ((j : ℕ) → j < k → at′ j ≡ at j) → ((j : ℕ) → j < k → st′ j ≡ st j)
-            → good (step (m .cell n) (st k)) ≡ false → ((x : Trie) → hits m (step (m .cell n) (st k)) x ≡ [])
-            → pending (suc k) at st ≡ pending (suc k) at′ st′
-        fail-gives hn hs ha hst ho hf = rw (opened, hn, hs, pending-same k ha hst, ho, hf (trie m (m .first (suc n))))
 
         pub fail-less : {at′ : ℕ → ℕ} → at′ k ≡ m .next n → ((j : ℕ) → j < k → at′ j ≡ at j) → work (suc k) at′ < work (suc k) at
         fail-less hn ha = rw (opened, hn, work-same k ha) (omega arith)

@@ -126,9 +126,6 @@ same-bool true false f g = sym (f refl)
 same-bool false true f g = g refl
 same-bool false false f g = refl
 
-pub all-as-many : (u v : ℕ → Bool) (k : ℕ) → ((n : ℕ) → v n ≡ true → u n ≡ true) → ((n : ℕ) → u n ≡ true → v n ≡ true) → tally v k ≡ tally u k
-all-as-many u v k f g = tally-same u v k (λ y h. same-bool (v y) (u y) (f y) (g y))
-
 -- ---- the bits of a map
 
 module _ (map map′ : List ℕ) (n v : ℕ) (h : n < 64 * length map) (e : bits map′ ≡ set (bits map) n v) where

@@ -1,12 +1,11 @@
 -- Each kind of command is done by its function, on the part of the cells that is its term.
 use borrow.Author.Needs.{needs}
-use mathlib.Core.Path.{_≡_, refl, sym, ap, _∙_, subst}
-use mathlib.Core.List.{List}
-use Prim.Native.Nat.{ℕ, _+_, _-_, _≤_, _<_}
+use mathlib.Core.Path.{sym, subst}
+use Prim.Native.Nat.{_-_, _≤_}
 use native.Mathlib.Omega.{arith}
-use lib.ListN.{length, take, drop}
+use lib.ListN.{drop}
 use Rattle.book.specs.Promises.{IsTerm}
-use Rattle.batch.specs.Commands.{Add, Remove, Ask, Show, Room, Stops}
+use Rattle.batch.specs.Commands.{Add, Remove, Ask}
 use Rattle.batch.specs.Promises.{Read}
 use Rattle.batch.proofs.Commanding.{Inside, inside, part-is}
 use Rattle.batch.proofs.Doing.{told, done, does-add, does-remove, does-ask, does-show, does-room, does-stop}

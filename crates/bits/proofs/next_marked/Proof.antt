@@ -1,8 +1,8 @@
 -- The rest of the first word is looked at, then the words that are zero are passed, and the next one has the bit.
-use Prim.Native.Nat.{_+_, _-_, _*_, _/_, _%_, _≤_, _<_}
+use Prim.Native.Nat.{_+_, _-_, _*_, _/_, _%_, _≤_}
 use native.Mathlib.Omega.{arith}
 use lib.Count.{leadingZeros, leading-le}
-use lib.ListN.{length, getD}
+use lib.ListN.{getD}
 use Rattle.bits.specs.Packed.{bits, Skipped}
 use Rattle.bits.proofs.Searching.{found, passed, none-found, in-word, no-word}
 use borrow.Author.Needs.{needs}

@@ -1,8 +1,6 @@
 -- What is left of the word behind the bit has the next one first, or the words behind it have
-use mathlib.Core.Path.{_≡_, refl}
-use Prim.Native.Nat.{_*_, _%_, _^_}
+use mathlib.Core.Path.{refl}
 use native.Mathlib.Omega.{arith}
-use lib.Count.{leading-le}
 use Rattle.bits.proofs.Searching.{word-goes, in-it, word-more}
 use borrow.Author.Needs.{needs}
 use Rattle.bits.proofs.next_spot.Statement.{statement}

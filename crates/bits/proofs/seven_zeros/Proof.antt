@@ -1,6 +1,4 @@
 -- The words before the one that is tested are zero
-use mathlib.Core.Path.{_≡_}
-use Prim.Native.Nat.{_+_}
 use borrow.Author.Needs.{needs}
 use Rattle.bits.proofs.Comparing.{Clear, clear-more, not-here, second-clear, not-second, last-decides, no-yes}
 use Rattle.bits.proofs.seven_zeros.Statement.{statement}

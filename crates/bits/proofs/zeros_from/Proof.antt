@@ -1,10 +1,7 @@
 -- All fields from `from` to before the word i are zero
-use mathlib.Core.Path.{_≡_, refl}
-use mathlib.Core.Bool.{Bool, true, false}
-use Prim.Native.Nat.{ℕ, _+_, _-_, _/_, _≤_}
+use Prim.Native.Nat.{_-_, _/_}
 use native.Mathlib.Omega.{arith}
 use borrow.Author.Needs.{needs}
-use lib.ListN.{length}
 use Rattle.bits.proofs.Comparing.{Clear, clear-first, clear-more, clear-end, clear-past, not-first, not-here, first-and-rest, no-yes, no-no}
 use Rattle.bits.proofs.zeros_from.Statement.{statement}
 use Rattle.bits.proofs.zeros_from.Tie as tie

@@ -1,7 +1,6 @@
 -- The number is the check's answer.
 use borrow.Author.Needs.{needs}
 use mathlib.Core.Path.{refl}
-use borrow.Author.Tests.{not-true, not-false}
 use Rattle.claggyfoot.specs.Numbers.{passing, failing}
 use Rattle.claggyfoot.proofs.cf_book_passes.Statement.{statement}
 use Rattle.claggyfoot.proofs.cf_book_passes.Tie as tie

@@ -1,5 +1,5 @@
 -- The walk goes from mark to mark, and writes the number of each.
-use mathlib.Core.Path.{_≡_, refl, sym, ap, _∙_}
+use mathlib.Core.Path.{refl}
 use Prim.Native.Nat.{ℕ, _+_, _-_, _≤_, _<_}
 use native.Mathlib.Omega.{arith}
 use Rattle.questions.proofs.Writing.{Written, begins, place-in, few, writes, written, still-long}

@@ -1,5 +1,4 @@
 -- A cell below 8000 is a symbol, with its arity in the first hex digit; any other is a variable, and blank.
-use mathlib.Core.Path.{_≡_, refl}
 use native.Mathlib.Omega.{arith}
 use borrow.Author.Needs.{needs}
 use borrow.Author.Tests.{lt-ltb, le-ltb}

@@ -1,5 +1,5 @@
 -- The two numbers are those of the reading that `read` ensures.
-use mathlib.Core.Path.{_≡_, refl, sym, ap, _∙_}
+use mathlib.Core.Path.{sym, ap, _∙_}
 use borrow.Author.Needs.{needs}
 use Rattle.term.specs.Reading.{readingRefusal, readingCells}
 use Rattle.term.proofs.cf_term_read.Statement.{statement}

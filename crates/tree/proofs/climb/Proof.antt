@@ -2,7 +2,7 @@
 use mathlib.Core.Path.{_≡_, _∙_, sym, subst}
 use Prim.Native.Nat.{ℕ, _-_, _≤_}
 use native.Mathlib.Omega.{arith}
-use lib.ListN.{length, getD}
+use lib.ListN.{length}
 use Rattle.tree.specs.Basics.{told-no, told-yes}
 use Rattle.tree.specs.Words.{shape}
 use Rattle.tree.specs.Promises.{formed}

@@ -1,5 +1,4 @@
 -- Each turn finds the child with the next cell, or that there is none
-use native.Mathlib.Omega.{arith}
 use Prim.Native.Nat.{_-_}
 use lib.ListN.{length}
 use Rattle.tree.specs.Words.{shape}

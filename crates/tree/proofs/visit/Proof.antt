@@ -1,5 +1,4 @@
 -- What is asked of the link is tested one by one, and the child is marked last
-use native.Mathlib.Omega.{arith}
 use mathlib.Core.Path.{_∙_}
 use Rattle.tree.specs.Shape.{loose}
 use Rattle.tree.specs.Words.{shape}

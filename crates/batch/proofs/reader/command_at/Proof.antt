@@ -1,9 +1,8 @@
 -- The command cell is taken apart, and the kinds are told apart in the definition's order.
 use borrow.Author.Needs.{needs}
-use mathlib.Core.Path.{_≡_, refl, sym, ap, _∙_}
+use mathlib.Core.Path.{_≡_, sym, ap, _∙_}
 use Prim.Native.Nat.{_+_, _/_, _%_}
-use native.Mathlib.Omega.{arith}
-use lib.ListN.{length, getD, drop, drop-of-length-le}
+use lib.ListN.{getD, drop, drop-of-length-le}
 use Rattle.batch.specs.Commands.{Room, commandIn, commandOf}
 use Rattle.batch.specs.Laws.{is-add, is-remove, is-ask, is-show, is-none, is-room, number-0, number-not-0}
 use Rattle.batch.proofs.Commanding.{first-cell}

@@ -1,5 +1,4 @@
 -- More than 512 cells are room for any list; else the marks are counted.
-use borrow.Author.Needs.{needs}
 use borrow.Author.Tests.{lt-ltb}
 use mathlib.Core.Path.{sym, ap, _∙_}
 use Prim.Native.Nat.{ℕ}

@@ -1,13 +1,12 @@
 -- The length is known before anything is written; then the cells stand behind the first.
 use borrow.Author.Needs.{needs}
 use borrow.Author.Tests.{not-true, not-false}
-use mathlib.Core.Path.{_≡_, refl, sym, ap, _∙_, subst}
+use mathlib.Core.Path.{_≡_, sym, ap, _∙_, subst}
 use mathlib.Core.List.{_++_}
 use Prim.Native.Nat.{ℕ, _+_, _*_, _-_, _≤_, _<_}
 use native.Mathlib.Omega.{arith}
 use borrow.Rule.Slice.PartMut.{midOf}
 use lib.ListN.{length, set, take, drop, length-set, length-take}
-use Rattle.book.specs.Memory.{rulesIn}
 use Rattle.batch.specs.Records.{good}
 use Rattle.batch.proofs.Writing.{written-as, no-room, with-cells, behind-first, kept-long}
 use Rattle.batch.proofs.Doing.{IsShown, not-shown, is-shown}

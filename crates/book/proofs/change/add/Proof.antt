@@ -1,11 +1,10 @@
 -- Each test is a refusal of the paper, in its order; past them the nodes are planted, the rule hangs and the record is put.
-use mathlib.Core.Path.{_≡_, refl, sym, ap, _∙_, subst}
+use mathlib.Core.Path.{_≡_, sym, ap, _∙_, subst}
 use mathlib.Core.List.{List, _++_}
-use Prim.Native.Nat.{ℕ, _+_, _-_, _≤_, _<_}
+use Prim.Native.Nat.{ℕ, _+_, _-_, _≤_}
 use native.Mathlib.Omega.{arith}
 use borrow.Author.Needs.{needs}
 use lib.ListN.{length, take, drop, length-map}
-use lib.Seq.{take-length}
 use Rattle.tree.specs.Words.{shape}
 use Rattle.tree.specs.Promises.{Hangable, Hung}
 use Rattle.book.specs.Rules.{nothing}

@@ -1,11 +1,11 @@
 -- The place of the number is one field, the length one word and the cells eight: three stores that meet nothing else.
-use mathlib.Core.Path.{_≡_, refl, sym, ap, _∙_}
+use mathlib.Core.Path.{_≡_, refl, ap, _∙_}
 use mathlib.Core.List.{List}
 use Prim.Native.Nat.{ℕ, _+_, _*_, _-_}
 use native.Mathlib.Omega.{arith}
 use borrow.Author.Needs.{needs}
-use borrow.Rule.Slice.PartMut.{putMid, same-len-mid}
-use lib.ListN.{length, set, take, drop, length-set, length-take, length-drop}
+use borrow.Rule.Slice.PartMut.{putMid}
+use lib.ListN.{length, set, take, drop, length-take, length-drop}
 use Rattle.bits.specs.Packed.{fields}
 use Rattle.book.proofs.Storing.{stored, stored-long, two-long, eight}
 use Rattle.book.proofs.change.put_record.Statement.{statement}

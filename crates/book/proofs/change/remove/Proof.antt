@@ -1,7 +1,6 @@
 -- The rule hangs at its place; trimming from there up is the set without it.
 use borrow.Author.Needs.{needs}
-use mathlib.Core.Path.{_≡_, refl, sym, ap, _∙_}
-use Prim.Native.Nat.{_+_}
+use mathlib.Core.Path.{_∙_}
 use native.Mathlib.Omega.{arith}
 use Rattle.tree.specs.Rows.{passes-tree}
 use Rattle.book.proofs.Looking.{tree-long}

@@ -1,12 +1,12 @@
 -- Test by test, as the record's conditions stand; then the way up.
-use mathlib.Core.Path.{_≡_, refl, sym, ap, _∙_, subst}
+use mathlib.Core.Path.{_≡_, ap, _∙_, subst}
 use mathlib.Core.List.{List}
-use Prim.Native.Nat.{ℕ, _+_, _*_, _-_, _≤_, _<_}
+use Prim.Native.Nat.{ℕ, _+_, _*_, _-_}
 use native.Mathlib.Omega.{arith}
 use borrow.Author.Needs.{needs}
 use borrow.Author.Tests.{not-true, not-false}
 use lib.ListN.{length, getD, take, drop, length-take, length-drop}
-use Rattle.bits.specs.Packed.{fields, Zeros}
+use Rattle.bits.specs.Packed.{fields}
 use Rattle.tree.specs.Promises.{Climbed, formed}
 use Rattle.book.specs.Memory.{view}
 use Rattle.book.proofs.Looking.{tree-long}

@@ -1,15 +1,15 @@
 -- The links fit, the records are right one after another, and the marks of both are the maps.
-use mathlib.Core.Path.{_≡_, refl, sym, ap, _∙_}
+use mathlib.Core.Path.{_≡_, refl, sym, _∙_}
 use mathlib.Core.Bool.{true}
 use Prim.Native.Nat.{ℕ, _+_, _-_, _≤_, _<_}
 use native.Mathlib.Omega.{arith}
 use borrow.Author.Needs.{needs}
 use borrow.Author.Tests.{not-true, not-false}
-use lib.ListN.{length, length-take, length-drop, take, drop}
+use lib.ListN.{length, take, drop}
 use Rattle.bits.specs.Packed.{restOf}
 use Rattle.book.specs.Memory.{view, taken}
 use Rattle.book.proofs.Looking.{tree-long}
-use Rattle.book.proofs.Passing.{map-long, rules-long, Checked, Next, next-taken, clear-map, checked-none, checked-skip, checked-more, wrong-length, wrong-links, wrong-record, aims-wrong, compared}
+use Rattle.book.proofs.Passing.{map-long, rules-long, Checked, next-taken, clear-map, checked-none, checked-skip, checked-more, wrong-length, wrong-links, wrong-record, aims-wrong, compared}
 use Rattle.book.proofs.check.passes.Statement.{statement}
 use Rattle.book.proofs.check.passes.Tie as tie
 

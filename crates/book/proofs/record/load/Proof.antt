@@ -1,11 +1,11 @@
 -- Each cell passed is the field of the same index.
-use mathlib.Core.Path.{_≡_, refl, sym, _∙_}
+use mathlib.Core.Path.{_≡_, refl}
 use Prim.Native.Nat.{_-_, _≤_}
 use native.Mathlib.Omega.{arith}
 use borrow.Author.Needs.{needs}
 use lib.ListN.{length, length-set, getD}
 use Rattle.bits.specs.Packed.{fields}
-use Rattle.book.proofs.Filling.{Filled, filled-none, filled-more, filled-all, fields-long}
+use Rattle.book.proofs.Filling.{Filled, filled-more, filled-all, fields-long}
 use Rattle.book.proofs.record.load.Statement.{statement}
 use Rattle.book.proofs.record.load.Tie as tie
 

@@ -1,9 +1,6 @@
 -- Each cell passed is the field of the same index, and those behind are zero on both sides
-use mathlib.Core.Path.{_≡_}
-use Prim.Native.Nat.{ℕ, _+_, _-_, _≤_, _<_}
+use Prim.Native.Nat.{_+_, _-_, _<_}
 use native.Mathlib.Omega.{arith}
-use borrow.Author.Needs.{needs}
-use lib.ListN.{length, length-set}
 use Rattle.book.proofs.Filling.{Loading, loading-none, room, loading-more, loaded}
 use Rattle.book.proofs.record.load_term.Statement.{statement}
 use Rattle.book.proofs.record.load_term.Tie as tie

@@ -1,12 +1,12 @@
 -- The cells passed are blank, and behind them the number still stands.
-use mathlib.Core.Path.{_≡_, refl, sym, _∙_}
+use mathlib.Core.Path.{_≡_, refl, _∙_}
 use Prim.Native.Nat.{ℕ, _-_, _≤_, _<_}
 use native.Mathlib.Omega.{arith}
 use borrow.Author.Needs.{needs}
 use lib.ListN.{length, length-set, getD, getD-replicate}
 use lib.Seq.{getD-set-other}
 use Rattle.book.specs.Memory.{blankNumber}
-use Rattle.book.proofs.Filling.{Filled, filled-none, filled-more, rowed}
+use Rattle.book.proofs.Filling.{Filled, filled-more, rowed}
 use Rattle.book.proofs.record.row.Statement.{statement}
 use Rattle.book.proofs.record.row.Tie as tie
 

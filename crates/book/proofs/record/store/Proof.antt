@@ -2,7 +2,6 @@
 use mathlib.Core.Path.{_≡_}
 use Prim.Native.Nat.{_-_, _*_, _≤_}
 use native.Mathlib.Omega.{arith}
-use borrow.Author.Needs.{needs}
 use lib.ListN.{length, length-set, getD}
 use Rattle.bits.specs.Packed.{fields}
 use Rattle.book.proofs.Filling.{Filled, filled-four, filled-all, fields-long, padded, padded-long}

@@ -1,8 +1,6 @@
 -- The two cells meet in one of seven ways, and each is a law of the machine's `meet`.
-use mathlib.Core.Path.{_≡_, refl, sym, ap, _∙_}
 use native.Mathlib.Omega.{arith}
 use borrow.Author.Needs.{needs}
-use denote.Ref.{now}
 use Rattle.term.proofs.Spots.{same-cell, blank-blank, fill-question, keep-question, fill-rule, keep-rule, other-symbol}
 use Rattle.term.proofs.machine.meet.Statement.{statement}
 use Rattle.term.proofs.machine.meet.Tie as tie
