@@ -3,7 +3,7 @@
 use std::hint::black_box;
 use std::time::Instant;
 
-use beside::{name_enter, name_of};
+use claggyfoot::ffi::{name_enter, name_of};
 
 const RUNS: usize = 301;
 

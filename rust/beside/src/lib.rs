@@ -5,8 +5,7 @@ pub mod both;
 pub mod lent;
 pub mod memory;
 pub mod shapes;
-
-pub use claggyfoot::ffi::{name_enter, name_of, NameEntered, NamePlace};
+pub mod tables;
 
 mod foreign {
     use super::TermRead;

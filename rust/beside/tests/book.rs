@@ -240,7 +240,7 @@ impl Pair {
     }
 
     fn room(&mut self) -> (usize, usize) {
-        let found = self.unchanged(|words| book_calls::room(words));
+        let found = self.unchanged(book_calls::room);
         let (rules, nodes) = self.model.room();
         let wanted = RoomLeft {
             refusal: 0,

@@ -1,54 +1,8 @@
 //! The proved calls on a name table beside the model's.
 
-use beside::{name_enter, name_of, NameEntered, NamePlace};
-use model::names;
+use beside::tables::{enter_alike, name_alike};
 use model::random::Random;
 use std::collections::HashMap;
-
-/// What stands around a lent table, so that a write past it is seen.
-const GUARD: [u8; 48] = [0xa5; 48];
-
-/// Lends a copy of the table between guards, and gives the answer and the table afterwards.
-fn lent<T>(table: &[u8], call: impl FnOnce(&mut [u8]) -> T) -> (T, Vec<u8>) {
-    let mut memory = [&GUARD[..], table, &GUARD].concat();
-    let end = GUARD.len() + table.len();
-    let answer = call(&mut memory[GUARD.len()..end]);
-    assert_eq!(memory[..GUARD.len()], GUARD);
-    assert_eq!(memory[end..], GUARD);
-    (answer, memory[GUARD.len()..end].to_vec())
-}
-
-/// Both enter the name alike: refusal, number and every byte of the table.
-fn enter_alike(table: &[u8], name: &[u8]) -> (NameEntered, Vec<u8>) {
-    let (found, after) = lent(table, |table| name_enter(table, name));
-    let mut wanted_after = table.to_vec();
-    let (refusal, number) = names::entered(names::enter(&mut wanted_after, name));
-    let wanted = NameEntered {
-        refusal: u64::from(refusal),
-        number: number as u64,
-    };
-    assert_eq!(found, wanted, "{name:?} into {table:?}");
-    assert_eq!(after, wanted_after, "{name:?} into {table:?}");
-    (found, after)
-}
-
-/// Both find the same part of the table for a number, and leave the table as it is.
-fn name_alike(table: &[u8], number: u64) -> NamePlace {
-    let (found, after) = lent(table, |table| name_of(table, number));
-    assert_eq!(after, table);
-    let part = names::name_of(table, number as usize);
-    let start = match part.is_empty() {
-        true => 0,
-        false => part.as_ptr() as usize - table.as_ptr() as usize,
-    };
-    let wanted = NamePlace {
-        refusal: u64::from(names::name_refusal(table, number as usize)),
-        start: start as u64,
-        length: part.len() as u64,
-    };
-    assert_eq!(found, wanted, "number {number} of {table:?}");
-    found
-}
 
 /// Both answer every call alike on this table.
 fn alike(table: &[u8]) {

@@ -1,46 +1,11 @@
 //! Name tables: each bit of small ones flipped, and bytes without a plan.
 
-use beside::lent::Lent;
-use claggyfoot::ffi::{self, NameEntered, NamePlace};
+use beside::tables::{enter_alike, name_alike};
 use model::names;
 use model::random::Random;
 
 use crate::counts::Counts;
 use crate::Part;
-
-/// Both enter the name alike, and the table is the same afterwards, byte for byte.
-fn enter_alike(table: &[u8], name: &[u8]) -> Vec<u8> {
-    let (mut lent, mut lent_name) = (Lent::of(table), Lent::of(name));
-    let found = lent.call(|table| lent_name.call(|name| ffi::name_enter(table, name)));
-    let mut after = table.to_vec();
-    let (refusal, number) = names::entered(names::enter(&mut after, name));
-    let wanted = NameEntered {
-        refusal: u64::from(refusal),
-        number: number as u64,
-    };
-    assert_eq!(found, wanted, "{name:?} into {table:?}");
-    assert_eq!(lent.items(), after, "{name:?} into {table:?}");
-    assert_eq!(lent_name.items(), name);
-    after
-}
-
-/// Both find the same part of the table.
-fn name_alike(table: &[u8], number: u64) {
-    let mut lent = Lent::of(table);
-    let found = lent.call(|table| ffi::name_of(table, number));
-    assert_eq!(lent.items(), table);
-    let part = names::name_of(table, number as usize);
-    let start = match part.is_empty() {
-        true => 0,
-        false => part.as_ptr() as usize - table.as_ptr() as usize,
-    };
-    let wanted = NamePlace {
-        refusal: u64::from(names::name_refusal(table, number as usize)),
-        start: start as u64,
-        length: part.len() as u64,
-    };
-    assert_eq!(found, wanted, "number {number} of {table:?}");
-}
 
 /// Both answer alike on this table.
 fn alike(table: &[u8], counts: &mut Counts) {
@@ -68,7 +33,7 @@ impl Flips {
     pub fn new() -> Flips {
         let names = [&b"cave"[..], b"lamp", b"cavf"];
         let filled = |count: usize| {
-            let enter = |table: Vec<u8>, name: &&[u8]| enter_alike(&table, name);
+            let enter = |table: Vec<u8>, name: &&[u8]| enter_alike(&table, name).1;
             names[..count].iter().fold(vec![0; 96], enter)
         };
         Flips {
@@ -119,7 +84,7 @@ impl Part for Plain {
         let mut table = vec![0; 32 * random.between(1, 30)];
         for _ in 0..40 {
             let name = name(random);
-            table = enter_alike(&table, &name);
+            table = enter_alike(&table, &name).1;
             name_alike(&table, random.below(32) as u64);
         }
         counts.add("names entered", 40);
