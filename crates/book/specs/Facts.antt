@@ -29,10 +29,10 @@ use Rattle.book.specs.Promises.{IsTerm, Empties, Checks, Adds, Removes, 
 
 module _ where
   abbrev zeros : List ℕ
-  zeros = replicate 10313 0
+  zeros = replicate 11466 0
 
   none : ((n : ℕ) → view zeros .tree .used n ≡ false) × Passes (view zeros .tree) []
-  none = empty-words (take 4681 zeros) (λ k h. getD-take 4681 zeros k 0 (omega arith) ∙ getD-replicate 10313 k 0 0 (omega arith))
+  none = empty-words (take 5834 zeros) (λ k h. getD-take 5834 zeros k 0 (omega arith) ∙ getD-replicate 11466 k 0 0 (omega arith))
 
   none-listed : (u : ℕ → Bool) → ((n : ℕ) → u n ≡ false) → (n : ℕ) → listed u n ≡ []
   none-listed u h zero = refl
@@ -41,13 +41,13 @@ module _ where
   no-leaves : leaves (view zeros) ≡ []
   no-leaves = ap (map (leaf (view zeros))) (none-listed (taken (view zeros)) (λ r. none .0 (4096 + r)) 512)
 
-  pub empty-passes : Passing (replicate 10313 0)
+  pub empty-passes : Passing (replicate 11466 0)
   empty-passes = record {
-    size = length-replicate {A = ℕ} 10313 0;
+    size = length-replicate {A = ℕ} 11466 0;
     right = record { records = λ r u. absurd (true≢false u (none .0 (4096 + r))); tree = subst (λ xs. Passes (view zeros .tree) (ends xs)) (sym no-leaves) (none .1) };
   }
 
-  pub empty-rules : rulesIn (replicate 10313 0) ≡ noRules
+  pub empty-rules : rulesIn (replicate 11466 0) ≡ noRules
   empty-rules = fun-ext (λ k. ap (λ (b : Bool). pickHeld b (rule (term (view zeros) (view zeros .place k))) nothing) (not-held k))
     where
       both-false : (a : Bool) → both a false ≡ false
@@ -75,11 +75,11 @@ pub record Nodes (ws : List ℕ) : Type 0 where
   pub one-node : (m n : ℕ) (r : List ℕ) → Up (view ws .tree) (suc m) r → Up (view ws .tree) (suc n) r → m ≡ n
 
 module _ (ws : List ℕ) (p : Passing ws) where
-  long : length (take 4681 ws) ≡ 4681
-  long = omega (arith, length-take 4681 ws, p .size)
+  long : length (take 5834 ws) ≡ 5834
+  long = omega (arith, length-take 5834 ws, p .size)
 
   low : (n : ℕ) → Used (view ws .tree) n → n < 4608
-  low = used-low (take 4681 ws) long
+  low = used-low (take 5834 ws) long
 
   pub limited : Limited (rulesIn ws)
   limited = record {
@@ -111,15 +111,15 @@ module _ (ws : List ℕ) (p : Passing ws) where
   }
 
   -- the count of set bits is the node count
-  pub bits-set : sum (bits (nodeMap (take 4681 ws))) ≡ nodesOf (rulesIn ws)
-  bits-set = nodes-held (take 4681 ws) long ∙ sym (nodes-tally (view ws) low (p .right))
+  pub bits-set : sum (bits (nodeMap (take 5834 ws))) ≡ nodesOf (rulesIn ws)
+  bits-set = nodes-held (take 5834 ws) long ∙ sym (nodes-tally (view ws) low (p .right))
 
 -- ---- one outcome
 
 pub empties-once : (ws a b : List ℕ) (r s : ℕ) → Empties ws a r → Empties ws b s → (r ≡ s) × (a ≡ b)
-empties-once ws a b r s x y = go (ℕ-discrete (length ws) 10313)
+empties-once ws a b r s x y = go (ℕ-discrete (length ws) 11466)
   where
-    go : Dec (length ws ≡ 10313) → (r ≡ s) × (a ≡ b)
+    go : Dec (length ws ≡ 11466) → (r ≡ s) × (a ≡ b)
     go (yes e) = (x .made e .0 ∙ sym (y .made e .0), x .made e .1 ∙ sym (y .made e .1))
     go (no n) = (x .refused n .0 ∙ sym (y .refused n .0), x .refused n .1 ∙ sym (y .refused n .1))
 

@@ -23,22 +23,22 @@ pub fn add(m: &mut [u64], number: u16, term: &[u16]) -> Added
     }
     let n = term.len();
     let row = crate::record::row(term, n, number);
-    let last = tree::plant(&mut m[0..4681], &row[0..n]);
+    let last = tree::plant(&mut m[0..5834], &row[0..n]);
     if last == 0 {
         return Added::NoNodes;
     }
-    tree::hang(&mut m[0..4681], last, r, crate::wide(number));
+    tree::hang(&mut m[0..5834], last, r, crate::wide(number));
     put_record(m, r, number, term);
     Added::Taken
 }
 
 // Writes the place of a number, and the record there.
 fn put_record(m: &mut [u64], r: usize, number: u16, term: &[u16])
-    requires { ⌜ (length (now m) ≡ 10313) × (r < 512) × (number < 4096) × (length (now term) ≤ 32) ⌝ }
+    requires { ⌜ (length (now m) ≡ 11466) × (r < 512) × (number < 4096) × (length (now term) ≤ 32) ⌝ }
     ensures { λ _. ⌜ Stores (view (now (m .entry))) (view (now (m .exit))) number r (now (term .entry)) ⌝ }
 {
-    bits::put_field(&mut m[4681..5705], crate::size_of(number), r as u16);
-    let at = 5706 + 9 * r;
+    bits::put_field(&mut m[5834..6858], crate::size_of(number), r as u16);
+    let at = 6859 + 9 * r;
     let end = at + 8;
     m[at - 1] = term.len() as u64;
     crate::record::store(&mut m[at..end], term);
@@ -54,6 +54,6 @@ pub fn remove(m: &mut [u64], number: u16) -> Removed
     if r == crate::Book::RULES {
         return Removed::NotHeld;
     }
-    tree::trim(&mut m[0..4681], crate::Book::NODES + r);
+    tree::trim(&mut m[0..5834], crate::Book::NODES + r);
     Removed::Gone
 }

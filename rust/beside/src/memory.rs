@@ -17,7 +17,7 @@ pub const LAST_RULE: u16 = 4_608;
 /// The lines of the page's check.
 #[derive(Clone, Copy, PartialEq, Eq, PartialOrd, Ord, Debug)]
 pub enum Line {
-    /// It has 10,313 words.
+    /// It has 11,466 words.
     Length,
     /// Links go well.
     LinksGo,

@@ -23,7 +23,7 @@ abbrev μ-loop : tie.MeasureT-loop
 loop-holds : tie.Need-loop-holds Inv-loop μ-loop
 loop-holds c = (c .before .pre, start)
 
-low : (l : tie.In-loop Inv-loop μ-loop) → (l .before .loop .x ≤ 4608) × (length (l .before .before .before .args .m .now) ≡ 10313)
+low : (l : tie.In-loop Inv-loop μ-loop) → (l .before .loop .x ≤ 4608) × (length (l .before .before .before .args .m .now) ≡ 11466)
 low l = (in-tree (l .before .before .before .args .m .now) (l .before .loop .x) (l .before .loop .inv .0) (l .loop-test .taken), l .before .loop .inv .0 .passing .size)
 
 -- the next link, as the code has it
