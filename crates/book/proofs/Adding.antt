@@ -181,41 +181,41 @@ module _ (ws : List ℕ) (k : ℕ) (t : List ℕ) (p : Passing ws) where
           joined = Memᴰ·map formOf (terms-standing (withRule (rulesIn ws) k t) t .1 (record { number = k; low = lk; is = with-here }))
 
           -- planting
-          pub sound : Sound (take 5834 ws)
+          pub sound : Sound (take 4681 ws)
           sound = record { size = tree-long ws (p .size); tree = passes-tree (p .right .tree) }
 
-          module _ (t₁ : List ℕ) (l : ℕ) (form : List ℕ) (ef : form ≡ formOf t) (pl : Planted (take 5834 ws) t₁ form l) where
-            planted : Planted (take 5834 ws) t₁ (formOf t) l
-            planted = subst (λ (f : List ℕ). Planted (take 5834 ws) t₁ f l) ef pl
+          module _ (t₁ : List ℕ) (l : ℕ) (form : List ℕ) (ef : form ≡ formOf t) (pl : Planted (take 4681 ws) t₁ form l) where
+            planted : Planted (take 4681 ws) t₁ (formOf t) l
+            planted = subst (λ (f : List ℕ). Planted (take 4681 ws) t₁ f l) ef pl
 
             nodes-is : nodesOf (withRule (rulesIn ws) k t) ≡ Rattle.tree.specs.NodeCount.node-count forms
             unfolding forms
             nodes-is = count-forms (terms (withRule (rulesIn ws) k t))
 
             -- 9
-            pub no-nodes : l ≡ 0 → Adds ws (t₁ ++ drop 5834 ws) k t rules.NoNodes
+            pub no-nodes : l ≡ 0 → Adds ws (t₁ ++ drop 4681 ws) k t rules.NoNodes
             no-nodes e = record {
-              answer = sym (judge-full false not-full ∙ ap (λ (b : Bool). pickAdded b rules.NoNodes rules.Taken) (lt-ltb 4096 (nodesOf (withRule (rulesIn ws) k t)) (subst (λ (n : ℕ). 4096 < n) (sym nodes-is) (planted-full (take 5834 ws) t₁ (formOf t) l planted (leaves (view ws)) hang free-old forms of kept joined e))));
+              answer = sym (judge-full false not-full ∙ ap (λ (b : Bool). pickAdded b rules.NoNodes rules.Taken) (lt-ltb 4096 (nodesOf (withRule (rulesIn ws) k t)) (subst (λ (n : ℕ). 4096 < n) (sym nodes-is) (planted-full (take 4681 ws) t₁ (formOf t) l planted (leaves (view ws)) hang free-old forms of kept joined e))));
               passes = subst Passing (sym same) p;
               rules = ap rulesIn same;
               nodes = subst (λ (x : List ℕ). TakesLowest (view ws .tree) (view x .tree)) (sym same) (no-change (view ws .tree));
               same = λ _. same;
             }
               where
-                same : t₁ ++ drop 5834 ws ≡ ws
-                same = ap (λ (x : List ℕ). x ++ drop 5834 ws) (planted .full e .0) ∙ take-append-drop 5834 ws
+                same : t₁ ++ drop 4681 ws ≡ ws
+                same = ap (λ (x : List ℕ). x ++ drop 4681 ws) (planted .full e .0) ∙ take-append-drop 4681 ws
 
             module _ (nz : ¬ (l ≡ 0)) where
               judge-taken : judged (rulesIn ws) k t ≡ rules.Taken
-              judge-taken = judge-full false not-full ∙ ap (λ (b : Bool). pickAdded b rules.NoNodes rules.Taken) (le-ltb 4096 (nodesOf (withRule (rulesIn ws) k t)) (subst (λ (n : ℕ). n ≤ 4096) (sym nodes-is) (planted-fits (take 5834 ws) t₁ (formOf t) l planted (leaves (view ws)) hang free-old forms of kept joined nz)))
+              judge-taken = judge-full false not-full ∙ ap (λ (b : Bool). pickAdded b rules.NoNodes rules.Taken) (le-ltb 4096 (nodesOf (withRule (rulesIn ws) k t)) (subst (λ (n : ℕ). n ≤ 4096) (sym nodes-is) (planted-fits (take 4681 ws) t₁ (formOf t) l planted (leaves (view ws)) hang free-old forms of kept joined nz)))
 
               partly : Partly (shape t₁) (ends (leaves (view ws))) l (reverse (formOf t))
-              partly = planted-partly (take 5834 ws) t₁ (formOf t) l planted nz (ends (leaves (view ws))) (p .right .tree)
+              partly = planted-partly (take 4681 ws) t₁ (formOf t) l planted nz (ends (leaves (view ws))) (p .right .tree)
 
               rules-kept : (y : ℕ) → 4096 ≤ y → (shape t₁ .used y ≡ view ws .tree .used y) × (shape t₁ .cell y ≡ view ws .tree .cell y)
               rules-kept y h = grown-rules (planted .grown nz) y h
 
-              pub hangable : length t₁ ≡ 5834 → Hangable t₁ l r k
+              pub hangable : length t₁ ≡ 4681 → Hangable t₁ l r k
               hangable lt = record {
                 sound = record { size = lt; tree = partly .tree };
                 live = up-live (partly .at);

@@ -19,36 +19,36 @@ use Rattle.book.specs.Holding.{rules-tally, nodes-tally, count-tally}
 use Rattle.book.specs.Promises.{pickPlace, Counts}
 
 -- a window inside the tree's words
-pub inside : (ws : List ℕ) (b n : ℕ) → b + n ≤ 5834 → take n (drop b (take 5834 ws)) ≡ take n (drop b ws)
-inside ws b n h = ext-getD 0 (take n (drop b (take 5834 ws))) (take n (drop b ws)) long same
+pub inside : (ws : List ℕ) (b n : ℕ) → b + n ≤ 4681 → take n (drop b (take 4681 ws)) ≡ take n (drop b ws)
+inside ws b n h = ext-getD 0 (take n (drop b (take 4681 ws))) (take n (drop b ws)) long same
   where
-    long : length (take n (drop b (take 5834 ws))) ≡ length (take n (drop b ws))
-    long = omega (arith, length-take n (drop b (take 5834 ws)), length-drop b (take 5834 ws), length-take 5834 ws, length-take n (drop b ws), length-drop b ws)
+    long : length (take n (drop b (take 4681 ws))) ≡ length (take n (drop b ws))
+    long = omega (arith, length-take n (drop b (take 4681 ws)), length-drop b (take 4681 ws), length-take 4681 ws, length-take n (drop b ws), length-drop b ws)
 
-    same : (i : ℕ) → i < length (take n (drop b (take 5834 ws))) → getD (take n (drop b (take 5834 ws))) i 0 ≡ getD (take n (drop b ws)) i 0
+    same : (i : ℕ) → i < length (take n (drop b (take 4681 ws))) → getD (take n (drop b (take 4681 ws))) i 0 ≡ getD (take n (drop b ws)) i 0
     same i l =
-        let k : i < n = omega (arith, length-take n (drop b (take 5834 ws))) in
-        getD-take n (drop b (take 5834 ws)) i 0 k ∙ getD-drop b (take 5834 ws) i 0 ∙ getD-take 5834 ws (b + i) 0 (omega arith) ∙ sym (getD-take n (drop b ws) i 0 k ∙ getD-drop b ws i 0)
+        let k : i < n = omega (arith, length-take n (drop b (take 4681 ws))) in
+        getD-take n (drop b (take 4681 ws)) i 0 k ∙ getD-drop b (take 4681 ws) i 0 ∙ getD-take 4681 ws (b + i) 0 (omega arith) ∙ sym (getD-take n (drop b ws) i 0 k ∙ getD-drop b ws i 0)
 
 pub rule-taken : (ws : List ℕ) (r : ℕ) → r < 512 → eqb (getD (bits (take 8 (drop 64 ws))) r 0) 1 ≡ taken (view ws) r
-rule-taken ws r h = ap (λ (m : List ℕ). marked m r) (sym (inside ws 64 8 (omega arith))) ∙ rule-bit (take 5834 ws) r h
+rule-taken ws r h = ap (λ (m : List ℕ). marked m r) (sym (inside ws 64 8 (omega arith))) ∙ rule-bit (take 4681 ws) r h
 
 pub rule-number : (ws : List ℕ) (r : ℕ) → r < 512 → cellOf (getD ws (4169 + r) 0) ≡ number (view ws) r
 rule-number ws r h =
     let e : 4169 + r ≡ 72 + suc (4096 + r) = omega arith in
-    ap cellOf (ap (λ (k : ℕ). getD ws k 0) e ∙ sym (getD-take 5834 ws (72 + suc (4096 + r)) 0 (omega arith)))
+    ap cellOf (ap (λ (k : ℕ). getD ws k 0) e ∙ sym (getD-take 4681 ws (72 + suc (4096 + r)) 0 (omega arith)))
 
 pub rule-parent : (ws : List ℕ) (r : ℕ) → r < 512 → parentOf (getD ws (4169 + r) 0) ≡ view ws .tree .parent (4096 + r)
 rule-parent ws r h =
     let e : 4169 + r ≡ 72 + suc (4096 + r) = omega arith in
-    ap parentOf (ap (λ (k : ℕ). getD ws k 0) e ∙ sym (getD-take 5834 ws (72 + suc (4096 + r)) 0 (omega arith)))
+    ap parentOf (ap (λ (k : ℕ). getD ws k 0) e ∙ sym (getD-take 4681 ws (72 + suc (4096 + r)) 0 (omega arith)))
 
 -- the tree's part is as long as it should be, and so its nodes are low
-pub tree-long : (ws : List ℕ) → length ws ≡ 11466 → length (take 5834 ws) ≡ 5834
-tree-long ws size = omega (arith, length-take 5834 ws)
+pub tree-long : (ws : List ℕ) → length ws ≡ 11466 → length (take 4681 ws) ≡ 4681
+tree-long ws size = omega (arith, length-take 4681 ws)
 
 pub nodes-low : (ws : List ℕ) → length ws ≡ 11466 → (n : ℕ) → Used (view ws .tree) n → n < 4608
-nodes-low ws size n u = used-low (take 5834 ws) (tree-long ws size) n u
+nodes-low ws size n u = used-low (take 4681 ws) (tree-long ws size) n u
 
 -- a number is held where its place is taken by a rule of that number
 module _ (ws : List ℕ) (k : ℕ) where
@@ -89,9 +89,9 @@ module _ (ws : List ℕ) (k : ℕ) where
 pub counted : (ws : List ℕ) (rules nodes : ℕ) → Passing ws → nodes ≡ sum (bits (take 64 ws)) → rules ≡ sum (bits (take 8 (drop 64 ws))) → Counts ws rules nodes
 counted ws rules nodes p e f = record {
   rules-are =
-      f ∙ ap (λ (m : List ℕ). sum (bits m)) (sym (inside ws 64 8 (omega arith))) ∙ rules-held (take 5834 ws) (tree-long ws (p .size))
+      f ∙ ap (λ (m : List ℕ). sum (bits m)) (sym (inside ws 64 8 (omega arith))) ∙ rules-held (take 4681 ws) (tree-long ws (p .size))
       ∙ sym (rules-tally (view ws) (nodes-low ws (p .size)) (p .right)) ∙ sym (count-tally (rulesIn ws));
   nodes-are =
-      e ∙ ap (λ (m : List ℕ). sum (bits m)) (sym (inside ws 0 64 (omega arith))) ∙ nodes-held (take 5834 ws) (tree-long ws (p .size))
+      e ∙ ap (λ (m : List ℕ). sum (bits m)) (sym (inside ws 0 64 (omega arith))) ∙ nodes-held (take 4681 ws) (tree-long ws (p .size))
       ∙ sym (nodes-tally (view ws) (nodes-low ws (p .size)) (p .right));
 }

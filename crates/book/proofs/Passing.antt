@@ -139,7 +139,7 @@ module _ (ws aims ways : List ℕ) (r : ℕ) (size : length ws ≡ 11466) (b : B
   both = decides (view ws .tree) (ends (leaves (view ws))) aims ways targeted climbs
 
   -- a map is that of the used nodes exactly where it has its bits
-  held : take 72 (take 5834 ws) ≡ take 72 ws
+  held : take 72 (take 4681 ws) ≡ take 72 ws
   held = inside ws 0 72 (omega arith)
 
   as-held : (m : List ℕ) → m ≡ take 72 ws → (n : ℕ) → marked m n ≡ view ws .tree .used n

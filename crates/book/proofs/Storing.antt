@@ -83,8 +83,8 @@ module _ (ws p q : List ℕ) (k r n : ℕ) (t : List ℕ) (size : length ws ≡ 
   places : take 1024 (drop 5834 (putMid at w ws₂ q)) ≡ p
   places = window three 5834 1024 (inl (omega arith)) ∙ window two 5834 1024 (inl (omega arith)) ∙ part-is 5834 1024 ws p (omega arith) lp
 
-  tree : take 5834 (putMid at w ws₂ q) ≡ take 5834 ws
-  tree = window three 0 5834 (inl (omega arith)) ∙ window two 0 5834 (inl (omega arith)) ∙ window one 0 5834 (inl (omega arith))
+  tree : take 4681 (putMid at w ws₂ q) ≡ take 4681 ws
+  tree = window three 0 4681 (inl (omega arith)) ∙ window two 0 4681 (inl (omega arith)) ∙ window one 0 4681 (inl (omega arith))
 
   size-is : getD (putMid at w ws₂ q) (6858 + 9 * r) 0 ≡ length t
   size-is =

@@ -32,7 +32,7 @@ module _ where
   zeros = replicate 11466 0
 
   none : ((n : ℕ) → view zeros .tree .used n ≡ false) × Passes (view zeros .tree) []
-  none = empty-words (take 5834 zeros) (λ k h. getD-take 5834 zeros k 0 (omega arith) ∙ getD-replicate 11466 k 0 0 (omega arith))
+  none = empty-words (take 4681 zeros) (λ k h. getD-take 4681 zeros k 0 (omega arith) ∙ getD-replicate 11466 k 0 0 (omega arith))
 
   none-listed : (u : ℕ → Bool) → ((n : ℕ) → u n ≡ false) → (n : ℕ) → listed u n ≡ []
   none-listed u h zero = refl
@@ -75,11 +75,11 @@ pub record Nodes (ws : List ℕ) : Type 0 where
   pub one-node : (m n : ℕ) (r : List ℕ) → Up (view ws .tree) (suc m) r → Up (view ws .tree) (suc n) r → m ≡ n
 
 module _ (ws : List ℕ) (p : Passing ws) where
-  long : length (take 5834 ws) ≡ 5834
-  long = omega (arith, length-take 5834 ws, p .size)
+  long : length (take 4681 ws) ≡ 4681
+  long = omega (arith, length-take 4681 ws, p .size)
 
   low : (n : ℕ) → Used (view ws .tree) n → n < 4608
-  low = used-low (take 5834 ws) long
+  low = used-low (take 4681 ws) long
 
   pub limited : Limited (rulesIn ws)
   limited = record {
@@ -111,8 +111,8 @@ module _ (ws : List ℕ) (p : Passing ws) where
   }
 
   -- the count of set bits is the node count
-  pub bits-set : sum (bits (nodeMap (take 5834 ws))) ≡ nodesOf (rulesIn ws)
-  bits-set = nodes-held (take 5834 ws) long ∙ sym (nodes-tally (view ws) low (p .right))
+  pub bits-set : sum (bits (nodeMap (take 4681 ws))) ≡ nodesOf (rulesIn ws)
+  bits-set = nodes-held (take 4681 ws) long ∙ sym (nodes-tally (view ws) low (p .right))
 
 -- ---- one outcome
 

@@ -24,10 +24,10 @@ pub record View : Type 0 where
   pub size : ℕ → ℕ
   pub cells : ℕ → List ℕ
 
--- The words: 5,834 of the tree, 1,024 of places, four to a word, and 512 records of 9: the length, and 32 cells, four to a word.
+-- The words: 4,681 of the tree, 1,024 of places, four to a word, and 512 records of 9: the length, and 32 cells, four to a word.
 abbrev pub view : List ℕ → View
 view ws = record {
-  tree = shape (take 5834 ws);
+  tree = shape (take 4681 ws);
   place = λ k. getD (fields (take 1024 (drop 5834 ws))) k 0;
   size = λ r. getD ws (6858 + 9 * r) 0;
   cells = λ r. fields (take 8 (drop (6859 + 9 * r) ws));

@@ -23,11 +23,11 @@ pub fn add(m: &mut [u64], number: u16, term: &[u16]) -> Added
     }
     let n = term.len();
     let row = crate::record::row(term, n, number);
-    let last = tree::plant(&mut m[0..5834], &row[0..n]);
+    let last = tree::plant(&mut m[0..4681], &row[0..n]);
     if last == 0 {
         return Added::NoNodes;
     }
-    tree::hang(&mut m[0..5834], last, r, crate::wide(number));
+    tree::hang(&mut m[0..4681], last, r, crate::wide(number));
     put_record(m, r, number, term);
     Added::Taken
 }
@@ -54,6 +54,6 @@ pub fn remove(m: &mut [u64], number: u16) -> Removed
     if r == crate::Book::RULES {
         return Removed::NotHeld;
     }
-    tree::trim(&mut m[0..5834], crate::Book::NODES + r);
+    tree::trim(&mut m[0..4681], crate::Book::NODES + r);
     Removed::Gone
 }

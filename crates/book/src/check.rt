@@ -46,7 +46,7 @@ fn check_record(m: &[u64], ways: &mut [u64], r: usize) -> bool
     }
     bits::mark(ways, crate::Book::NODES + r);
     tree::climb(
-        &m[0..5834],
+        &m[0..4681],
         ways,
         tree::parent_of(w) as usize,
         &cells[0..size],
@@ -61,7 +61,7 @@ pub fn passes(m: &[u64]) -> bool
         return false;
     }
     let mut aims = [0u64; 72];
-    if !tree::targets(&m[0..5834], &mut aims) {
+    if !tree::targets(&m[0..4681], &mut aims) {
         return false;
     }
     let mut ways = [0u64; 72];

@@ -93,7 +93,7 @@ module _ (fq fr : Bool) (ws q : List ℕ) (b : Book ws q) where
   all = found fq fr (blankForm q) wq (view ws) low (b .passing .right) bound
 
   -- the word of a used node
-  pub word-of : (n : ℕ) → Used (view ws .tree) n → word (take 5834 ws) (suc n) ≡ getD ws (72 + suc n) 0
+  pub word-of : (n : ℕ) → Used (view ws .tree) n → word (take 4681 ws) (suc n) ≡ getD ws (72 + suc n) 0
   word-of = threads.word-of ws (b .passing)
 
   -- what the loop keeps
@@ -187,7 +187,7 @@ module _ (fq fr : Bool) (ws q : List ℕ) (b : Book ws q) where
 
       module _ (w : ℕ) (ew : w ≡ getD ws (72 + suc n) 0) (beside : Point) (eb : beside .link ≡ nextOf w) (es : beside .skip ≡ getD l k (record { link = 0; skip = 0; place = 0 }) .skip) (ep : beside .place ≡ getD l k (record { link = 0; skip = 0; place = 0 }) .place)
           (lists : Bool) (down skip′ place′ : ℕ) (t : Turned fq fr q w (getD l k (record { link = 0; skip = 0; place = 0 }) .skip) (getD l k (record { link = 0; skip = 0; place = 0 }) .place) lists down skip′ place′) where
-        w-is : word (take 5834 ws) (suc n) ≡ w
+        w-is : word (take 4681 ws) (suc n) ≡ w
         w-is = word-of n u ∙ sym ew
 
         cell-is : view ws .tree .cell n ≡ cellOf w

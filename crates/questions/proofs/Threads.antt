@@ -22,25 +22,25 @@ module _ (ws : List ℕ) (p : Passing ws) where
   abbrev pub tree : Tree (view ws .tree)
   tree = passes-tree (p .right .tree)
 
-  tree-long : length (take 5834 ws) ≡ 5834
-  tree-long = omega (arith, length-take 5834 ws, p .size)
+  tree-long : length (take 4681 ws) ≡ 4681
+  tree-long = omega (arith, length-take 4681 ws, p .size)
 
   pub low : (n : ℕ) → Used (view ws .tree) n → n < 4608
-  low n u = used-low (take 5834 ws) tree-long n u
+  low n u = used-low (take 4681 ws) tree-long n u
 
   pub bound : ((i : ℕ) → getD ws i 0 < 2 ^ 64) → Bounded (view ws .tree)
-  bound all = bounded (take 5834 ws) tree-long (λ l. words (72 + l)) _ (p .right .tree) (rows-short (hanging (view ws) low (p .right)))
+  bound all = bounded (take 4681 ws) tree-long (λ l. words (72 + l)) _ (p .right .tree) (rows-short (hanging (view ws) low (p .right)))
     where
-      words : (i : ℕ) → getD (take 5834 ws) i 0 < 2 ^ 64
-      words i = go (decLt i 5834)
+      words : (i : ℕ) → getD (take 4681 ws) i 0 < 2 ^ 64
+      words i = go (decLt i 4681)
         where
-          go : Dec (i < 5834) → getD (take 5834 ws) i 0 < 2 ^ 64
-          go (yes h) = subst (λ (x : ℕ). x < 2 ^ 64) (sym (getD-take 5834 ws i 0 h)) (all i)
-          go (no h) = subst (λ (x : ℕ). x < 2 ^ 64) (sym (List·getD-eq-default (take 5834 ws) 0 (omega (arith, tree-long)))) (lib.Dec.lit< tt)
+          go : Dec (i < 4681) → getD (take 4681 ws) i 0 < 2 ^ 64
+          go (yes h) = subst (λ (x : ℕ). x < 2 ^ 64) (sym (getD-take 4681 ws i 0 h)) (all i)
+          go (no h) = subst (λ (x : ℕ). x < 2 ^ 64) (sym (List·getD-eq-default (take 4681 ws) 0 (omega (arith, tree-long)))) (lib.Dec.lit< tt)
 
   -- the word of a used node
-  pub word-of : (n : ℕ) → Used (view ws .tree) n → word (take 5834 ws) (suc n) ≡ getD ws (72 + suc n) 0
-  word-of n u = let l = low n u in getD-take 5834 ws (72 + suc n) 0 (omega arith)
+  pub word-of : (n : ℕ) → Used (view ws .tree) n → word (take 4681 ws) (suc n) ≡ getD ws (72 + suc n) 0
+  word-of n u = let l = low n u in getD-take 4681 ws (72 + suc n) 0 (omega arith)
 
   next-is : (n : ℕ) → Used (view ws .tree) n → view ws .tree .next n ≡ nextOf (getD ws (72 + suc n) 0)
   next-is n u = ap nextOf (word-of n u)

@@ -36,7 +36,7 @@ pub begins : (fq fr : Bool) (ws q marks : List ℕ) (l : List Point) → Passing
 unfolding linkAt
 begins fq fr ws q marks l pass whole lm r =
     let b : Book ws q = record { passing = pass; whole = whole; words = r .root .words } in
-    (b, starts fq fr ws q b marks l lm (r .long) (r .root .link ∙ ap firstOf (sym (getD-take 5834 ws 72 0 (omega arith)))) (r .root .skip) (r .root .place))
+    (b, starts fq fr ws q b marks l lm (r .long) (r .root .link ∙ ap firstOf (sym (getD-take 4681 ws 72 0 (omega arith)))) (r .root .skip) (r .root .place))
 
 module _ (fq fr : Bool) (ws q marks₀ marks : List ℕ) (l : List Point) (depth : ℕ) (i : Loop fq fr ws q marks₀ marks l depth) where
   pub ends : depth ≤ 0 → Searched fq fr ws q marks₀ marks

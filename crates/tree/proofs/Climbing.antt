@@ -41,7 +41,7 @@ on-step : {m : Shape} {n k : ℕ} → On m n (suc k) → (n ≡ k) ⊎ On m n (m
 on-step here = inl refl
 on-step (above o) = inr o
 
-module _ (ws map₀ map : List ℕ) (start : ℕ) (form : List ℕ) (size : length ws ≡ 5834) where
+module _ (ws map₀ map : List ℕ) (start : ℕ) (form : List ℕ) (size : length ws ≡ 4681) where
   fail : (l i : ℕ) → Climbing ws map₀ map start form l i → ¬ (Up (loose (shape ws)) l (reverse (take i form))) → Climbed (shape ws) map₀ map start form false
   fail l i c h = record { yes = λ e. absurd (true≢false e refl); no = λ e u. h (c .up .1 u); marks = λ e. absurd (true≢false e refl) }
 

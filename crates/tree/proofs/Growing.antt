@@ -32,7 +32,7 @@ one-of zero h n = absurd (n refl)
 one-of (suc zero) h n = refl
 one-of (suc (suc x)) h n = absurd (omega arith)
 
-module _ (ws : List ℕ) (size : length ws ≡ 5834) (n : ℕ) (f : First 0 (bits (take 64 ws)) 0 n) where
+module _ (ws : List ℕ) (size : length ws ≡ 4681) (n : ℕ) (f : First 0 (bits (take 64 ws)) 0 n) where
   long : length (bits (take 64 ws)) ≡ 4096
   long = omega (arith, length-bits (take 64 ws), length-take 64 ws)
 
@@ -67,7 +67,7 @@ full-none ws = record { within = omega arith; used = λ y h. absurd (omega arith
 pub full-skipped : (ws : List ℕ) (k : ℕ) → Full ws k → Skipped 0 (bits (take 64 ws)) 0 (k * 64)
 full-skipped ws k f y a h e = true≢false (node-bit ws y (let w = f .within in omega arith) ∙ f .used y h) (ap (λ (x : ℕ). eqb x 1) e)
 
-pub full-on : (ws ws′ : List ℕ) → length ws ≡ 5834 → (n : ℕ) → First 0 (bits (take 64 ws)) 0 n → n < 4096 → {s : Place} {c : ℕ} → Links (shape ws) (shape ws′) s c n
+pub full-on : (ws ws′ : List ℕ) → length ws ≡ 4681 → (n : ℕ) → First 0 (bits (take 64 ws)) 0 n → n < 4096 → {s : Place} {c : ℕ} → Links (shape ws) (shape ws′) s c n
     → Full ws′ (n / 64)
 full-on ws ws′ size n f l k = record {
   within = omega arith;
@@ -151,7 +151,7 @@ tally-low u n (suc k) h = go (tally-low u n k (λ y m q. h y m (omega arith))) (
     go b (yes l) = let a = tally-le u (suc k) in omega arith
     go b (no l) = let a : bit (u k) ≡ 0 = ap bit (h k (omega arith) (omega arith)) in omega arith
 
-module _ (ws : List ℕ) (size : length ws ≡ 5834) where
+module _ (ws : List ℕ) (size : length ws ≡ 4681) where
   -- the last word of the map is 0: its 64 nodes are free
   pub last-free : getD ws 63 0 ≡ 0 → tally (shape ws .used) 4096 ≤ 4032
   last-free e = tally-low (shape ws .used) 4032 4096 (λ y a b. ap (λ (x : ℕ). eqb x 1) (free y a b))

@@ -26,7 +26,7 @@ at-fits h = omega arith
 pub at-bytes : {l : ℕ} → l ≤ 4608 → Fits w64 ((72 + l) * 8)
 at-bytes h = omega arith
 
-pub at-in : {k l : ℕ} → k ≡ 5834 → l ≤ 4608 → 72 + l < k
+pub at-in : {k l : ℕ} → k ≡ 4681 → l ≤ 4608 → 72 + l < k
 at-in size h = omega arith
 
 pub in-map : {k l : ℕ} → k ≡ 72 → (0 < l) × (l ≤ 4608) → l - 1 < 64 * k
@@ -41,7 +41,7 @@ node-word ws n = let e : 73 + n ≡ 72 + suc n = omega arith in ap (λ (k : ℕ)
 
 -- ---- the word w at the link q
 
-module _ (ws : List ℕ) (size : length ws ≡ 5834) (q : ℕ) (hq : q ≤ 4608) (w : ℕ) where
+module _ (ws : List ℕ) (size : length ws ≡ 4681) (q : ℕ) (hq : q ≤ 4608) (w : ℕ) where
   at-q : word (set ws (72 + q) w) q ≡ w
   at-q = getD-set-same ws (72 + q) w 0 (omega arith)
 
@@ -104,7 +104,7 @@ module _ (ws : List ℕ) (size : length ws ≡ 5834) (q : ℕ) (hq : q ≤ 4608)
       places (after y) a b = ap nextOf (other y (λ d. a (ap after d)))
 
 -- as the code has it
-module _ (ws : List ℕ) (size : length ws ≡ 5834) (p b : ℕ) where
+module _ (ws : List ℕ) (size : length ws ≡ 4681) (p b : ℕ) where
   pub puts-first : b ≡ 0 → p ≤ 4608 → (w x : ℕ) → Node w (cellOf (word ws p)) (parentOf (word ws p)) x (nextOf (word ws p))
       → Puts (shape ws) (shape (set ws (72 + p) w)) (place p b) x
   puts-first e hp w x n = go b e
@@ -129,14 +129,14 @@ pub gets-next : (ws : List ℕ) (p b r : ℕ) → ¬ (b ≡ 0) → r ≡ nextOf 
 gets-next ws p zero r e h = absurd (e refl)
 gets-next ws p (suc b) r e h = sym h
 
-pub writes : (ws : List ℕ) → length ws ≡ 5834 → (n : ℕ) → n < 4608 → (w c p x : ℕ) → Node w c p 0 x → Writes (shape ws) (shape (set ws (73 + n) w)) n c p x
+pub writes : (ws : List ℕ) → length ws ≡ 4681 → (n : ℕ) → n < 4608 → (w c p x : ℕ) → Node w c p 0 x → Writes (shape ws) (shape (set ws (73 + n) w)) n c p x
 writes ws size n hn w c p x d =
     let e : 72 + suc n ≡ 73 + n = omega arith in
     subst (λ (k : ℕ). Writes (shape ws) (shape (set ws k w)) n c p x) e (write ws size (suc n) hn w n c p x refl d)
 
 -- ---- the bit v of the node n
 
-pub flips : (ws map : List ℕ) (n v : ℕ) → length ws ≡ 5834 → n < 4608 → length map ≡ length (take 72 ws) → bits map ≡ set (bits (take 72 ws)) n v
+pub flips : (ws map : List ℕ) (n v : ℕ) → length ws ≡ 4681 → n < 4608 → length map ≡ length (take 72 ws) → bits map ≡ set (bits (take 72 ws)) n v
     → Flips (shape ws) (shape (map ++ drop 72 ws)) n (eqb v 1)
 flips ws map n v size hn same e = record {
   here = front n ∙ mark-here (take 72 ws) map n v low e;

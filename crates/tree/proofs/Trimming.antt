@@ -41,7 +41,7 @@ module _ (ws : List ℕ) (n p : ℕ) (l : Leaf ws n) (ep : p ≡ parentOf (getD 
 
 -- the loop: it is at the link l, and what trimming from there gives is the whole
 pub record Trimming (ws₀ ws : List ℕ) (l₀ l : ℕ) : Type 0 where
-  pub size : length ws ≡ 5834
+  pub size : length ws ≡ 4681
   pub tree : Tree (shape ws)
   pub live : Live (shape ws) l
   pub low : l ≤ 4608

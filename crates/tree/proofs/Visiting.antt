@@ -32,7 +32,7 @@ visit-none m map x p low e = record { yes = λ r n q. absurd (omega arith); no =
     go y (inl a) = a
     go y (inr q) = absurd (omega arith)
 
-module _ (ws map : List ℕ) (x p low : ℕ) (size : length ws ≡ 5834) (nz : ¬ (x ≡ 0)) where
+module _ (ws map : List ℕ) (x p low : ℕ) (size : length ws ≡ 4681) (nz : ¬ (x ≡ 0)) where
   bad : ¬ (Suits (loose (shape ws)) p low (x - 1)) → Visited (loose (shape ws)) map map x p low false
   bad h = record { yes = λ r. absurd (true≢false r refl); no = λ r f. h (f (x - 1) (omega arith)); marks = λ r. absurd (true≢false r refl) }
 
@@ -177,7 +177,7 @@ pub record Walk (ws map : List ℕ) (n : ℕ) : Type 0 where
   pub used : n < 4608 → Used (shape ws) n
   pub targeting : Targeting (shape ws) map n
 
-pub walk-to : (ws map : List ℕ) (k n : ℕ) → length ws ≡ 5834 → length map ≡ 72 → First 1 (bits (take 72 ws)) k n → Targeting (shape ws) map k → Walk ws map n
+pub walk-to : (ws map : List ℕ) (k n : ℕ) → length ws ≡ 4681 → length map ≡ 72 → First 1 (bits (take 72 ws)) k n → Targeting (shape ws) map k → Walk ws map n
 walk-to ws map k n size long f t = record {
   size = long;
   low = omega (arith, f .within, all);
@@ -229,7 +229,7 @@ module _ (ws map map₁ : List ℕ) (n : ℕ) (u : Used (shape ws) n) (r : Bool)
           go (yes d) = v .marks q y .1 (inr (inr (ap (shape ws .next) (sym d) ∙ e)))
           go (no d) = v .marks q y .1 (inl (t .marks (after k) w (earlier d b) y e))
 
-pub target-end : (ws map : List ℕ) (n : ℕ) → length ws ≡ 5834 → 4608 ≤ n → Targeting (shape ws) map n → Targeted (shape ws) map true
+pub target-end : (ws map : List ℕ) (n : ℕ) → length ws ≡ 4681 → 4608 ≤ n → Targeting (shape ws) map n → Targeted (shape ws) map true
 target-end ws map n size h t = record {
   yes = λ e s v. t .goes s v (low s v);
   no = λ e. absurd (true≢false refl e);

@@ -26,7 +26,7 @@ pub record Walk (ws : List ℕ) (p b c x : ℕ) : Type 0 where
   pub low : x ≤ 4608
 
 -- where a link leads there is a node of the memory
-link-low : (ws : List ℕ) → length ws ≡ 5834 → Tree (shape ws) → (s : Place) → Valid (shape ws) s → (x : ℕ) → to (shape ws) s ≡ x → x ≤ 4608
+link-low : (ws : List ℕ) → length ws ≡ 4681 → Tree (shape ws) → (s : Place) → Valid (shape ws) s → (x : ℕ) → to (shape ws) s ≡ x → x ≤ 4608
 link-low ws size t s v zero e = omega arith
 link-low ws size t s v (suc k) e = used-low ws size k (t .goes s v e .used)
 
@@ -34,7 +34,7 @@ pub walk-start : (ws : List ℕ) (p c x : ℕ) → Ready ws p → x ≡ firstOf 
 walk-start ws p c x r e =
     record { valid = r .live; under = refl; above = omega arith; leads = sym e; low = link-low ws (r .size) (r .tree) (child p) (r .live) x (sym e) }
 
-module _ (ws : List ℕ) (size : length ws ≡ 5834) (t : Tree (shape ws)) (p b c : ℕ) where
+module _ (ws : List ℕ) (size : length ws ≡ 4681) (t : Tree (shape ws)) (p b c : ℕ) where
   pub walk-on : (x v y : ℕ) → ¬ (x ≡ 0) → Walk ws p b c x → v ≡ cellOf (word ws x) → v < c → y ≡ nextOf (word ws x) → Walk ws p x c y
   walk-on zero v y h w e l f = absurd (h refl)
   walk-on (suc k) v y h w e l f =

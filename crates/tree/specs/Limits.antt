@@ -46,7 +46,7 @@ rule-bit ws r h = same-bit (ruleMap ws) (take 72 ws) r (4096 + r)
 marks-held : (map : List ℕ) (k : ℕ) → length map ≡ k → sum (bits map) ≡ tally (marked map) (64 * k)
 marks-held map k e = map-tally map ∙ ap (λ (z : ℕ). tally (marked map) (64 * z)) e
 
-module _ (ws : List ℕ) (size : length ws ≡ 5834) where
+module _ (ws : List ℕ) (size : length ws ≡ 4681) where
   pub map-long : length (take 72 ws) ≡ 72
   map-long = omega (arith, length-take 72 ws)
 

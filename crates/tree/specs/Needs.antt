@@ -14,13 +14,13 @@ use Rattle.tree.specs.Promises.{Marked, Absent, Found}
 
 -- a walk among the children of p
 pub record Ready (ws : List ℕ) (p : ℕ) : Type 0 where
-  pub size : length ws ≡ 5834
+  pub size : length ws ≡ 4681
   pub tree : Tree (shape ws)
   pub live : Live (shape ws) p
 
 -- a place of p for the free node n with the cell c
 pub record Room (ws : List ℕ) (p b n c : ℕ) : Type 0 where
-  pub size : length ws ≡ 5834
+  pub size : length ws ≡ 4681
   pub owner : p ≤ 4608
   pub sibling : b ≤ 4608
   pub node : n < 4608
@@ -35,7 +35,7 @@ Next m form l i b = i < length form → Found m l b (getD form i 0)
 
 -- the cells of the form from i on are to grow under l, the first of them behind b, and there is room for them
 pub record Growing (ws : List ℕ) (l b : ℕ) (form : List ℕ) (i : ℕ) : Type 0 where
-  pub size : length ws ≡ 5834
+  pub size : length ws ≡ 4681
   pub tree : Tree (shape ws)
   pub live : Live (shape ws) l
   pub absent : i < length form → Absent (shape ws) l (getD form i 0)
@@ -44,7 +44,7 @@ pub record Growing (ws : List ℕ) (l b : ℕ) (form : List ℕ) (i : ℕ) : Typ
   pub within : i ≤ length form
 
 pub record Leaf (ws : List ℕ) (n : ℕ) : Type 0 where
-  pub size : length ws ≡ 5834
+  pub size : length ws ≡ 4681
   pub node : n < 4608
   pub tree : Tree (shape ws)
   pub used : Used (shape ws) n

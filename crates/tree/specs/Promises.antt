@@ -13,7 +13,7 @@ use Rattle.tree.specs.Words.{shape, place}
 
 -- the length of the memory, and a tree in it
 pub record Sound (ws : List ℕ) : Type 0 where
-  pub size : length ws ≡ 5834
+  pub size : length ws ≡ 4681
   pub tree : Tree (shape ws)
 
 -- the bit n of a map is set

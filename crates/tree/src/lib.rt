@@ -1,4 +1,4 @@
-// The tree in lent memory of 5,834 words: one node for each different beginning of the forms that it holds, and the rules
+// The tree in lent memory of 4,681 words: one node for each different beginning of the forms that it holds, and the rules
 // below the last nodes of their forms.
 //
 //   word 0 to 63      the node map: node n is bit n % 64, the most significant first, of word n / 64
@@ -82,7 +82,7 @@ fn wide(x: u16) -> u64
 // ---- places: among the children of p the one after the sibling b, or the first where b is 0
 
 fn get_link(m: &[u64], p: usize, b: usize) -> usize
-    requires { ⌜ length (now m) ≡ 5834 ⌝ }
+    requires { ⌜ length (now m) ≡ 4681 ⌝ }
     requires { ⌜ p ≤ 4608 ⌝ }
     requires { ⌜ b ≤ 4608 ⌝ }
     ensures { λ r. ⌜ to (shape (now (m .entry))) (place p b) ≡ r ⌝ }
@@ -95,7 +95,7 @@ fn get_link(m: &[u64], p: usize, b: usize) -> usize
 }
 
 fn put_link(m: &mut [u64], p: usize, b: usize, x: u64)
-    requires { ⌜ length (now m) ≡ 5834 ⌝ }
+    requires { ⌜ length (now m) ≡ 4681 ⌝ }
     requires { ⌜ p ≤ 4608 ⌝ }
     requires { ⌜ b ≤ 4608 ⌝ }
     requires { ⌜ x < 65536 ⌝ }
@@ -207,7 +207,7 @@ fn grow(m: &mut [u64], l: usize, b: usize, form: &[u16]) -> usize
 // Are as many nodes free? Always the lowest free node is taken, so the last word of the map is nearly always 0: then 64 are, and
 // the others need no count.
 fn has_nodes(m: &[u64], missing: usize) -> bool
-    requires { ⌜ (length (now m) ≡ 5834) × (missing ≤ 32) ⌝ }
+    requires { ⌜ (length (now m) ≡ 4681) × (missing ≤ 32) ⌝ }
     ensures yes { λ r. ⌜ (r ≡ true → tally (shape (now (m .entry)) .used) 4096 + missing ≤ 4096) ⌝ }
     ensures no { λ r. ⌜ (r ≡ false → 4096 < tally (shape (now (m .entry)) .used) 4096 + missing) ⌝ }
 {
@@ -293,7 +293,7 @@ fn is_node(l: usize) -> bool
 
 // Does going up from the link `from` read the form of the cells backwards and end at the root? Marks the nodes on the way.
 pub fn climb(m: &[u64], map: &mut [u64], from: usize, cells: &[u16]) -> bool
-    requires { ⌜ length (now m) ≡ 5834 ⌝ }
+    requires { ⌜ length (now m) ≡ 4681 ⌝ }
     requires { ⌜ length (now map) ≡ 72 ⌝ }
     ensures { λ r. ⌜ Climbed (shape (now (m .entry))) (now (map .entry)) (now (map .exit)) from (formed (now (cells .entry))) r ⌝ }
 {
@@ -316,7 +316,7 @@ pub fn climb(m: &[u64], map: &mut [u64], from: usize, cells: &[u16]) -> bool
 
 // Is x no link, or one to a child of p with a cell of at least `low`? Marks the child.
 fn visit(m: &[u64], map: &mut [u64], x: usize, p: usize, low: u64) -> bool
-    requires { ⌜ length (now m) ≡ 5834 ⌝ }
+    requires { ⌜ length (now m) ≡ 4681 ⌝ }
     requires { ⌜ length (now map) ≡ 72 ⌝ }
     ensures { λ r. ⌜ Visited (loose (shape (now (m .entry)))) (now (map .entry)) (now (map .exit)) x p low r ⌝ }
 {
@@ -339,7 +339,7 @@ fn visit(m: &[u64], map: &mut [u64], x: usize, p: usize, low: u64) -> bool
 
 // The two places of the node n.
 fn visit_node(m: &[u64], map: &mut [u64], n: usize) -> bool
-    requires { ⌜ length (now m) ≡ 5834 ⌝ }
+    requires { ⌜ length (now m) ≡ 4681 ⌝ }
     requires { ⌜ length (now map) ≡ 72 ⌝ }
     requires { ⌜ n < 4608 ⌝ }
     ensures { λ r. ⌜ Noded (loose (shape (now (m .entry)))) (now (map .entry)) (now (map .exit)) n r ⌝ }
@@ -359,7 +359,7 @@ fn visit_node(m: &[u64], map: &mut [u64], n: usize) -> bool
 
 // Do all links of the root and of the used nodes fit? Marks the nodes that they lead to. It walks over the set bits of the map.
 pub fn targets(m: &[u64], map: &mut [u64]) -> bool
-    requires { ⌜ length (now m) ≡ 5834 ⌝ }
+    requires { ⌜ length (now m) ≡ 4681 ⌝ }
     requires { ⌜ length (now map) ≡ 72 ⌝ }
     requires { ⌜ ((y : ℕ) → Marked (now map) y → ⊥) ⌝ }
     ensures { λ r. ⌜ Targeted (shape (now (m .entry))) (now (map .exit)) r ⌝ }

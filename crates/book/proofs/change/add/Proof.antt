@@ -80,7 +80,7 @@ returns-3 c =
     no-nodes (s .args .m .now) (s .args .number) (s .args .term .now) (s .pre .0) (new f) (f .lowest-free .result) (f .lowest-free .ensures) (r .before .if2 .left) (s .pre .1 .1) (s .pre .1 .0)
     (p .plant .last .0) (p .plant .result) _ (form-is r) (p .plant .ensures) (c .if3 .taken)
 
-tree-kept : (p : tie.After-plant) → length (p .plant .last .0) ≡ 5834
+tree-kept : (p : tie.After-plant) → length (p .plant .last .0) ≡ 4681
 tree-kept p = let s = start (free-at p) in p .plant .kept .0 ∙ tree-long (s .args .m .now) (s .pre .0 .size)
 
 hang-requires : tie.Need-hang-requires
@@ -94,11 +94,11 @@ hang-requires c κs =
     (p .plant .last .0) (p .plant .result) _ (form-is r) (p .plant .ensures) (e .if3 .left) (tree-kept p) in
     hangs (s .args .m .now) (p .plant .last .0) (tree-kept p) (p .plant .result) (f .lowest-free .result) (s .args .number) (c .wide .result) (c .wide .ensures) h
   where
-    hangs : (ws t : List ℕ) → length t ≡ 5834 → (l r k n : ℕ) → n ≡ k → Hangable t l r k → Hangable (take 5834 (t ++ drop 5834 ws)) l r n
-    hangs ws t lt l r k n e h = subst (λ (z : ℕ). Hangable (take 5834 (t ++ drop 5834 ws)) l r z) (sym e) (subst (λ (z : List ℕ). Hangable z l r k) (sym (front-is 5834 ws t lt)) h)
+    hangs : (ws t : List ℕ) → length t ≡ 4681 → (l r k n : ℕ) → n ≡ k → Hangable t l r k → Hangable (take 4681 (t ++ drop 4681 ws)) l r n
+    hangs ws t lt l r k n e h = subst (λ (z : ℕ). Hangable (take 4681 (t ++ drop 4681 ws)) l r z) (sym e) (subst (λ (z : List ℕ). Hangable z l r k) (sym (front-is 4681 ws t lt)) h)
 
 -- the tree alone changes, twice
-one : (p : tie.After-plant) → TreeOnly (start (free-at p) .args .m .now) (p .plant .last .0 ++ drop 5834 (start (free-at p) .args .m .now)) (shape (p .plant .last .0))
+one : (p : tie.After-plant) → TreeOnly (start (free-at p) .args .m .now) (p .plant .last .0 ++ drop 4681 (start (free-at p) .args .m .now)) (shape (p .plant .last .0))
 one p = let s = start (free-at p) in tree-only (s .args .m .now) (p .plant .last .0) (s .pre .0 .size) (tree-kept p)
 
 module _ (h : tie.After-hang) where
@@ -106,23 +106,23 @@ module _ (h : tie.After-hang) where
   at = h .before .before .before .before .before .before
 
   abbrev ws₁ : List ℕ
-  ws₁ = at .plant .last .0 ++ drop 5834 (start (free-at at) .args .m .now)
+  ws₁ = at .plant .last .0 ++ drop 4681 (start (free-at at) .args .m .now)
 
   size₁ : length ws₁ ≡ 11466
   size₁ = one at .long ∙ start (free-at at) .pre .0 .size
 
-  hung-kept : length (h .hang .last .0) ≡ 5834
+  hung-kept : length (h .hang .last .0) ≡ 4681
   hung-kept = h .hang .kept .0 ∙ tree-long ws₁ size₁
 
-  two : TreeOnly ws₁ (h .hang .last .0 ++ drop 5834 ws₁) (shape (h .hang .last .0))
+  two : TreeOnly ws₁ (h .hang .last .0 ++ drop 4681 ws₁) (shape (h .hang .last .0))
   two = tree-only ws₁ (h .hang .last .0) size₁ hung-kept
 
   hung : Hung (shape (at .plant .last .0)) (shape (h .hang .last .0)) (at .plant .result) (free-at at .lowest-free .result) (start (free-at at) .args .number)
   hung =
       hangs (start (free-at at) .args .m .now) (at .plant .last .0) (tree-kept at) (h .hang .last .0) (at .plant .result) (free-at at .lowest-free .result) (start (free-at at) .args .number) (h .before .wide .result) (h .before .wide .ensures) (h .hang .ensures)
     where
-      hangs : (ws t : List ℕ) → length t ≡ 5834 → (t′ : List ℕ) (l r k n : ℕ) → n ≡ k → Hung (shape (take 5834 (t ++ drop 5834 ws))) (shape t′) l r n → Hung (shape t) (shape t′) l r k
-      hangs ws t lt t′ l r k n e h = subst (λ (z : ℕ). Hung (shape t) (shape t′) l r z) e (subst (λ (z : List ℕ). Hung (shape z) (shape t′) l r n) (front-is 5834 ws t lt) h)
+      hangs : (ws t : List ℕ) → length t ≡ 4681 → (t′ : List ℕ) (l r k n : ℕ) → n ≡ k → Hung (shape (take 4681 (t ++ drop 4681 ws))) (shape t′) l r n → Hung (shape t) (shape t′) l r k
+      hangs ws t lt t′ l r k n e h = subst (λ (z : ℕ). Hung (shape t) (shape t′) l r z) e (subst (λ (z : List ℕ). Hung (shape z) (shape t′) l r n) (front-is 4681 ws t lt) h)
 
 put-record-requires : tie.Need-put-record-requires
 put-record-requires c κs =
