@@ -5,3 +5,4 @@ pub mod Growing
 pub mod Trimming
 pub mod Climbing
 pub mod Visiting
+pub mod Leaping

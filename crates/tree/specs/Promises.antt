@@ -9,7 +9,7 @@ use Rattle.term.specs.Cells.{blankOf, numberOf}
 use Rattle.tree.specs.Shape.{Shape, Place, Used, Live, Valid, to, owner, floor, Suits, Goes, Source, Up, On, Tree, loose}
 use Rattle.tree.specs.Change.{Grown, Links, Sorted}
 use Rattle.tree.specs.Tally.{tally, marked}
-use Rattle.tree.specs.Words.{shape, place}
+use Rattle.tree.specs.Words.{cellOf, parentOf, nextOf, shape, place}
 
 -- the length of the memory, and a tree in it
 pub record Sound (ws : List ℕ) : Type 0 where
@@ -83,3 +83,16 @@ pub record Targeted (m : Shape) (map : List ℕ) (r : Bool) : Type 0 where
   pub yes : r ≡ true → (s : Place) → Valid m s → Goes (loose m) s
   pub no : r ≡ false → ¬ ((s : Place) → Valid m s → Goes (loose m) s)
   pub marks : r ≡ true → (y : ℕ) → Marked map y ↔ Source m y
+
+-- The link f leads to a used sibling further on than the node with the word w, with a cell of `most` at the most
+pub record Further (m : Shape) (w most f : ℕ) : Type 0 where
+  pub node : ℕ
+  pub leads : f ≡ suc node
+  pub used : Used m node
+  pub beside : m .parent node ≡ parentOf w
+  pub further : cellOf w < m .cell node
+  pub near : m .cell node ≤ most
+
+-- The next sibling, or one further on
+abbrev pub Onward : Shape → ℕ → ℕ → ℕ → Type 0
+Onward m w most r = (r ≡ nextOf w) ⊎ Further m w most r

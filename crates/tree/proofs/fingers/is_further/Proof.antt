@@ -1,0 +1,40 @@
+-- Each test that fails is a way out with nothing promised; past them all that is promised has been read
+use mathlib.Core.Path.{refl, sym}
+use Rattle.term.specs.Counting.{true≢false}
+use Rattle.tree.proofs.Leaping.{looked-at}
+use borrow.Author.Needs.{needs}
+use Rattle.tree.proofs.fingers.is_further.Statement.{statement}
+use Rattle.tree.proofs.fingers.is_further.Tie as tie
+
+returns-6 : tie.Need-returns-6
+returns-6 c r =
+    let k = c .before .before .before in
+    let s = c .before .before .before .before .before .before .before .before .before .before .before .before .before .before in
+    let p = k .before .before .before .before .before in
+    looked-at (s .args .m .now) (s .args .w) (s .args .most) (s .args .f) (c .before .before .before .before .before .before .before .before .before .before .before .before .if1 .left) _ _ _ _ _
+    (p .before .parent-of .ensures) (p .parent-of2 .ensures) (k .before .before .before .before .if3 .left) (k .before .before .before .cell-of .ensures) (k .before .before .cell-of2 .ensures) (k .before .if4 .left)
+    (k .cell-of3 .ensures) (c .before .before .if5 .left) (c .is-marked .result) (c .is-marked .ensures) r
+
+pub is-further-spec : {M : Type 1} → statement M
+is-further-spec =
+    tie.close
+    (tie.spec
+    (λ c e. absurd (true≢false e refl))
+    (λ c e. absurd (true≢false e refl))
+    (λ c. search needs)
+    (λ c. search needs)
+    (λ c. search needs)
+    (λ c κs. search needs)
+    (λ c κs. search needs)
+    (λ c e. absurd (true≢false e refl))
+    (λ c κs. search needs)
+    (λ c κs. search needs)
+    (λ c e. absurd (true≢false e refl))
+    (λ c κs. search needs)
+    (λ c e. absurd (true≢false e refl))
+    (λ c. search needs)
+    (λ c. search needs)
+    (λ c. search needs)
+    (λ c. search needs)
+    (λ c κs. search needs)
+    returns-6)

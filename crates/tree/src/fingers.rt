@@ -1,0 +1,183 @@
+// Fingers: a link to a sibling further on, for one sibling in sixteen, so that long lists of siblings are passed by leaps.
+//
+// They stand in 1,153 words of their own, the finger of link l as field l. A finger is a hint: who follows one looks first
+// where it leads. So the check doesn't read them, removing a rule leaves them, and a wrong one costs time and never an answer.
+ghost use mathlib.Core.Path.{_≡_};
+ghost use mathlib.Core.Bool.{true};
+ghost use Prim.Native.Nat.{_≤_};
+ghost use lib.ListN.{length};
+ghost use Rattle.tree.specs.Words.{shape};
+ghost use Rattle.tree.specs.Promises.{Further, Onward};
+
+// Has a node with this cell a finger? The factor spreads those that have over cells that follow each other.
+fn has_finger(cell: u64) -> bool {
+    cell % 65536 * 40503 % 65536 < 4096
+}
+
+// Does the link f lead to a sibling further on than the node with the word w, with a cell of `most` at the most?
+fn is_further(m: &[u64], w: u64, f: usize, most: u64) -> bool
+    requires { ⌜ length (now m) ≡ 4681 ⌝ }
+    ensures { λ r. ⌜ (r ≡ true → Further (shape (now (m .entry))) w most f) ⌝ }
+{
+    if f == 0 {
+        return false;
+    }
+    if 4608 < f {
+        return false;
+    }
+    let v = m[72 + f];
+    if crate::parent_of(v) != crate::parent_of(w) {
+        return false;
+    }
+    if crate::cell_of(v) <= crate::cell_of(w) {
+        return false;
+    }
+    if most < crate::cell_of(v) {
+        return false;
+    }
+    bits::is_marked(&m[0..72], f - 1)
+}
+
+// From the node x with the word w on: where its finger leads, if that is further and not too far, or the next sibling.
+pub fn onward(m: &[u64], fingers: &[u64], x: usize, w: u64, most: u64) -> usize
+    requires { ⌜ length (now m) ≡ 4681 ⌝ }
+    requires { ⌜ length (now fingers) ≡ 1153 ⌝ }
+    requires { ⌜ x ≤ 4608 ⌝ }
+    ensures { λ r. ⌜ Onward (shape (now (m .entry))) w most r ⌝ }
+{
+    let f = bits::field(fingers, x) as usize;
+    if is_further(m, w, f, most) {
+        return f;
+    }
+    crate::next_of(w) as usize
+}
+
+// The node x with the word v, if it has a finger, or else the one before it that has.
+fn latest(v: u64, x: usize, e: usize) -> usize
+    requires { ⌜ x ≤ 4608 ⌝ }
+    requires { ⌜ e ≤ 4608 ⌝ }
+    ensures { λ r. ⌜ r ≤ 4608 ⌝ }
+{
+    if has_finger(crate::cell_of(v)) {
+        return x;
+    }
+    e
+}
+
+// The last sibling before the node l that has a finger, or 0. No list has more than 4,608 siblings.
+fn before(m: &[u64], fingers: &[u64], l: usize) -> usize
+    requires { ⌜ length (now m) ≡ 4681 ⌝ }
+    requires { ⌜ length (now fingers) ≡ 1153 ⌝ }
+    requires { ⌜ l ≤ 4608 ⌝ }
+    ensures { λ r. ⌜ r ≤ 4608 ⌝ }
+{
+    let w = m[72 + l];
+    let p = crate::parent_of(w) as usize;
+    if 4608 < p {
+        return 0;
+    }
+    let mut e: usize = 0;
+    let mut x = crate::first_of(m[72 + p]) as usize;
+    let mut steps: usize = 0;
+    while steps < 4608 {
+        if x == 0 {
+            return e;
+        }
+        if 4608 < x {
+            return e;
+        }
+        let v = m[72 + x];
+        if crate::cell_of(w) <= crate::cell_of(v) {
+            return e;
+        }
+        e = latest(v, x, e);
+        x = onward(m, fingers, x, v, crate::cell_of(w));
+        steps += 1;
+    }
+    e
+}
+
+// The first sibling behind the node l that has a finger, or 0. As one in sixteen has, a hundred steps are enough.
+fn behind(m: &[u64], l: usize) -> usize
+    requires { ⌜ length (now m) ≡ 4681 ⌝ }
+    requires { ⌜ l ≤ 4608 ⌝ }
+    ensures { λ r. ⌜ r ≤ 4608 ⌝ }
+{
+    let mut x = crate::next_of(m[72 + l]) as usize;
+    let mut steps: usize = 0;
+    while steps < 100 {
+        if x == 0 {
+            return 0;
+        }
+        if 4608 < x {
+            return 0;
+        }
+        let v = m[72 + x];
+        if has_finger(crate::cell_of(v)) {
+            return x;
+        }
+        x = crate::next_of(v) as usize;
+        steps += 1;
+    }
+    0
+}
+
+// Going up from the node `last`, past those that are the only child: the node that came in beside others.
+fn highest(m: &[u64], last: usize) -> usize
+    requires { ⌜ length (now m) ≡ 4681 ⌝ }
+    requires { ⌜ last ≤ 4608 ⌝ }
+    ensures { λ r. ⌜ r ≤ 4608 ⌝ }
+{
+    let mut l = last;
+    let mut steps: usize = 0;
+    while steps < 33 {
+        let w = m[72 + l];
+        if crate::next_of(w) != 0 {
+            return l;
+        }
+        let p = crate::parent_of(w) as usize;
+        if p == 0 {
+            return l;
+        }
+        if 4608 < p {
+            return l;
+        }
+        if crate::first_of(m[72 + p]) as usize != l {
+            return l;
+        }
+        l = p;
+        steps += 1;
+    }
+    l
+}
+
+// Two fingers to put: that of the node `at`, to `behind`, and that of `before`, to it. Without a node they are those of the
+// root, which nobody follows.
+pub struct Fingers {
+    pub before: usize,
+    pub at: usize,
+    pub behind: usize,
+}
+
+// The fingers that a new rule calls for, whose node is `last`: its nodes came in one below the other, and the highest of them
+// is the only one with siblings.
+pub fn fingers_for(m: &[u64], fingers: &[u64], last: usize) -> Fingers
+    requires { ⌜ length (now m) ≡ 4681 ⌝ }
+    requires { ⌜ length (now fingers) ≡ 1153 ⌝ }
+    requires { ⌜ last ≤ 4608 ⌝ }
+    ensures { λ r. ⌜ ((r .before ≤ 4608) × (r .at ≤ 4608)) × (r .behind ≤ 4608) ⌝ }
+{
+    let l = highest(m, last);
+    if has_finger(crate::cell_of(m[72 + l])) {
+        return Fingers {
+            before: before(m, fingers, l),
+            at: l,
+            behind: behind(m, l),
+        };
+    }
+    Fingers {
+        before: 0,
+        at: 0,
+        behind: 0,
+    }
+}
