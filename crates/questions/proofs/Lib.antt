@@ -1,5 +1,6 @@
 -- Why the search does what it promises.
 pub mod Threads
+pub mod Leaps
 pub mod Seeking
 pub mod Deciding
 pub mod Lending

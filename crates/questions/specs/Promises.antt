@@ -60,6 +60,11 @@ pub data PassesBy (ws : List ℕ) (cell link : ℕ) : ℕ → Type 0 where
   start : PassesBy ws cell link link
   pass-on : {x : ℕ} → PassesBy ws cell link x → ¬ (x ≡ 0) → cellOf (getD ws (72 + x) 0) < 32768 → ¬ (cellOf (getD ws (72 + x) 0) ≡ cell) → PassesBy ws cell link (nextOf (getD ws (72 + x) 0))
 
+-- Between a sibling with the cell c and one with the cell r there is no blank, nor the cell wanted.
+pub record Reach (cell c r : ℕ) : Type 0 where
+  pub low : r ≤ 32768
+  pub between : (d : ℕ) → c ≤ d → d < r → ¬ (d ≡ cell)
+
 -- Passed by up to r; or up to a symbol above `last`, and r is none.
 pub data Sought (ws : List ℕ) (cell last link r : ℕ) : Type 0 where
   reached : PassesBy ws cell link r → Sought ws cell last link r

@@ -11,7 +11,7 @@ ghost use Rattle.book.specs.Memory.{Passing};
 ghost use Rattle.book.specs.Promises.{IsTerm};
 ghost use Rattle.tree.specs.Tally.{marked};
 ghost use Rattle.questions.specs.Asking.{numbers};
-ghost use Rattle.questions.specs.Promises.{Turned, Placed, Sought, Decisive, Skips, moved, Threaded, Stood, Became, IsRoot, Rooted, Searched, Asked, Lists};
+ghost use Rattle.questions.specs.Promises.{Turned, Placed, Reach, Sought, Decisive, Skips, moved, Threaded, Stood, Became, IsRoot, Rooted, Searched, Asked, Lists};
 use term::machine;
 
 // A point still to be tried: a link, the subterms of a rule still to skip there, and the place in the question.
@@ -112,8 +112,21 @@ pub fn place_points(w: u64, p: Point, t: Decision, depth: usize) -> Points
     }
 }
 
+// How far a leap may go from a sibling with the cell c: not past the cell wanted, nor past the blank, which is the last.
+fn reach(cell: u64, c: u64) -> u64
+    requires { ⌜ (c ≡ cell → ⊥) ⌝ }
+    ensures { λ r. ⌜ Reach cell c r ⌝ }
+{
+    if c < cell {
+        if cell < 0x8000 {
+            return cell;
+        }
+    }
+    0x8000
+}
+
 // The first sibling from the link on whose cell is the one wanted, or that is a blank; none where a symbol above `last` comes
-// before. Most siblings are passed here, at one load each and nothing stored.
+// before. Most siblings are passed here, at one load each and nothing stored, and long lists of them by leaps.
 fn sibling(m: &[u64], cell: u64, last: u64, link: usize) -> usize
     requires { ⌜ Threaded (now m) link ⌝ }
     ensures { λ r. ⌜ Sought (now (m .entry)) cell last link r ⌝ }
@@ -131,7 +144,8 @@ fn sibling(m: &[u64], cell: u64, last: u64, link: usize) -> usize
         if last < c {
             return 0;
         }
-        x = tree::next_of(w) as usize;
+        let most = reach(cell, c);
+        x = tree::fingers::onward(&m[0..4681], &m[4681..5834], x, w, most);
     }
     x
 }
