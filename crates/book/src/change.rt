@@ -29,6 +29,7 @@ pub fn add(m: &mut [u64], number: u16, term: &[u16]) -> Added
     }
     tree::hang(&mut m[0..4681], last, r, crate::wide(number));
     put_record(m, r, number, term);
+    put_fingers(m, r);
     Added::Taken
 }
 
@@ -42,6 +43,22 @@ fn put_record(m: &mut [u64], r: usize, number: u16, term: &[u16])
     let end = at + 8;
     m[at - 1] = term.len() as u64;
     crate::record::store(&mut m[at..end], term);
+}
+
+// Puts the fingers that the new rule at the place r calls for. They are hints, and what the book holds does not depend on them.
+fn put_fingers(m: &mut [u64], r: usize)
+    requires { ⌜ (length (now m) ≡ 11466) × (r < 512) ⌝ }
+    ensures { λ _. ⌜ view (now (m .exit)) ≡ view (now (m .entry)) ⌝ }
+{
+    let f = tree::fingers::fingers_for(&m[0..4681], &m[4681..5834], 4097 + r);
+    let at = f.at;
+    if at == 0 {
+        return;
+    }
+    let before = f.before;
+    let behind = f.behind;
+    bits::put_field(&mut m[4681..5834], at, behind as u16);
+    bits::put_field(&mut m[4681..5834], before, at as u16);
 }
 
 // Removes the rule of a number, with the nodes that no other rule needs.

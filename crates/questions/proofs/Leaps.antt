@@ -47,7 +47,7 @@ module _ (ws : List ℕ) (p : Passing ws) (all : (i : ℕ) → getD ws i 0 < 2 ^
       less = subst (λ (x : ℕ). size (trie (view ws .tree) x) < size (trie (view ws .tree) (suc k))) (sym (next-is k u) ∙ q .1) (next-less ws p all k u)
 
       go : ((j : ℕ) → Used (view ws .tree) j → view ws .tree .parent b ≡ view ws .tree .parent j → low ≤ view ws .tree .cell j → view ws .tree .cell j < view ws .tree .cell b → view ws .tree .cell b ≤ view ws .tree .cell j + n
-              → PassesBy ws cell link (suc j) → PassesBy ws cell link (suc b) × (size (trie (view ws .tree) (suc b)) < size (trie (view ws .tree) (suc j))))
+          → PassesBy ws cell link (suc j) → PassesBy ws cell link (suc b) × (size (trie (view ws .tree) (suc b)) < size (trie (view ws .tree) (suc j))))
           → (q .0 ≡ b) ⊎ (view ws .tree .cell (q .0) < view ws .tree .cell b) → PassesBy ws cell link (suc b) × (size (trie (view ws .tree) (suc b)) < size (trie (view ws .tree) (suc k)))
       go ih (inl z) = (subst (λ (j : ℕ). PassesBy ws cell link (suc j)) z passed, subst (λ (j : ℕ). size (trie (view ws .tree) (suc j)) < size (trie (view ws .tree) (suc k))) z less)
       go ih (inr z) =

@@ -7,10 +7,12 @@ use borrow.Author.Needs.{needs}
 use lib.ListN.{length, take, drop, length-map}
 use Rattle.tree.specs.Words.{shape}
 use Rattle.tree.specs.Promises.{Hangable, Hung}
-use Rattle.book.specs.Rules.{nothing}
+use Rattle.book.specs.Rules.{nothing, Taken}
 use Rattle.book.specs.Memory.{formOf, rulesIn}
 use Rattle.book.proofs.Looking.{tree-long}
 use Rattle.book.proofs.Parts.{front-is}
+use Rattle.book.specs.Promises.{Adds}
+use Rattle.book.proofs.Fingers.{with-fingers}
 use Rattle.book.proofs.Placing.{not-placed, placed, TreeOnly, tree-only}
 use Rattle.book.proofs.Adding.{held-already, book-full, place-low, term-whole, sound, no-nodes, hangable, taken-now, row-form}
 use Rattle.book.proofs.change.add.Statement.{statement}
@@ -137,17 +139,41 @@ put-record-requires c κs =
       short f e .1,
     )
 
+-- the record is put, and the rule is taken
+module _ (q : tie.After-put-record) where
+  abbrev hangs : tie.After-hang
+  hangs = q .before .before .before .before
+
+  abbrev plants : tie.After-plant
+  plants = hangs .before .before .before .before .before .before
+
+  long : length (q .put-record .last .0) ≡ 11466
+  long = q .put-record .kept .0 ∙ two hangs .long ∙ size₁ hangs
+
+  takes : Adds (start (free-at plants) .args .m .now) (q .put-record .last .0) (start (free-at plants) .args .number) (start (free-at plants) .args .term .now) Taken
+  takes =
+      let h = hangs in
+      let p = plants in
+      let r = p .before .before .before .before in
+      let f = r .before .before in
+      let s = start f in
+      taken-now (s .args .m .now) (s .args .number) (s .args .term .now) (s .pre .0) (new f) (f .lowest-free .result) (f .lowest-free .ensures) (r .before .if2 .left) (s .pre .1 .1) (s .pre .1 .0)
+      (p .plant .last .0) (p .plant .result) _ (form-is r) (p .plant .ensures) (h .before .before .before .if3 .left)
+      (h .hang .last .0) _ (q .put-record .last .0) _ (one p) (hung h) (two h) (q .put-record .ensures) long
+
+put-fingers-requires : tie.Need-put-fingers-requires
+put-fingers-requires c κs =
+    let q = c .before .before .before in
+    let p = plants q in
+    let f = free-at p in
+    let s = start f in
+    (long q, place-low (s .args .m .now) (s .args .number) (s .args .term .now) (s .pre .0) (new f) (f .lowest-free .result) (f .lowest-free .ensures) (p .before .before .before .before .before .if2 .left))
+
 returns-4 : tie.Need-returns-4
 returns-4 c =
-    let q = c .before .before in
-    let h = q .before .before .before .before in
-    let p = h .before .before .before .before .before .before in
-    let r = p .before .before .before .before in
-    let f = r .before .before in
-    let s = start f in
-    taken-now (s .args .m .now) (s .args .number) (s .args .term .now) (s .pre .0) (new f) (f .lowest-free .result) (f .lowest-free .ensures) (r .before .if2 .left) (s .pre .1 .1) (s .pre .1 .0)
-    (p .plant .last .0) (p .plant .result) _ (form-is r) (p .plant .ensures) (h .before .before .before .if3 .left)
-    (h .hang .last .0) _ (q .put-record .last .0) _ (one p) (hung h) (two h) (q .put-record .ensures) (q .put-record .kept .0 ∙ two h .long ∙ size₁ h)
+    let g = c .before .before in
+    let q = g .before .before .before .before in
+    with-fingers (takes q) (g .put-fingers .ensures) (g .put-fingers .kept .0)
 
 pub add-spec : {M : Type 1} → statement M
 add-spec =
@@ -178,5 +204,6 @@ add-spec =
     (λ c κs. search needs)
     hang-requires
     put-record-requires
+    put-fingers-requires
     (λ c. search needs)
     returns-4)
