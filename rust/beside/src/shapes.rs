@@ -63,8 +63,8 @@ pub fn words_that_matter(words: &[u64]) -> BTreeSet<usize> {
         matter.insert(72 + usize::from(link));
         if link > memory::LAST_NODE {
             let (place, number) = (link - 4_097, memory::link(words, link).cell);
-            matter.insert(4_681 + usize::from(number) / 4);
-            let record = 5_705 + 9 * usize::from(place);
+            matter.insert(5_834 + usize::from(number) / 4);
+            let record = 6_858 + 9 * usize::from(place);
             matter.extend(record..record + 9);
         }
     }
@@ -96,6 +96,23 @@ pub fn put_field(words: &mut [u64], start: usize, index: usize, value: u16) {
     *word = *word & !(0xffff << shift) | u64::from(value) << shift;
 }
 
+/// The word of the first fingers.
+pub const FINGERS: usize = 4_681;
+
+/// Fingers that lead anywhere, mostly to what is in use: hints may be wrong.
+pub fn any_fingers(random: &mut Random, words: &mut [u64]) {
+    let used = memory::in_use(words);
+    for link in 0..=usize::from(memory::LAST_RULE) {
+        let finger = match random.below(8) {
+            0 => random.cell(),
+            1 => 0,
+            _ if used.is_empty() => link as u16,
+            _ => random.pick(&used),
+        };
+        put_field(words, FINGERS, link, finger);
+    }
+}
+
 /// Two links change their numbers, with all that leads to them: the same book, written in another way.
 pub fn renumber(words: &mut [u64], one: u16, other: u16) {
     let swap = |link: u16| match link {
@@ -117,12 +134,12 @@ pub fn renumber(words: &mut [u64], one: u16, other: u16) {
         });
     }
     if one > memory::LAST_NODE {
-        let start = |link: u16| 5_705 + 9 * usize::from(link - 4_097);
+        let start = |link: u16| 6_858 + 9 * usize::from(link - 4_097);
         (0..9).for_each(|index| words.swap(start(one) + index, start(other) + index));
         for link in [one, other] {
             if memory::is_used(words, link) {
                 let number = usize::from(memory::link(words, link).cell);
-                put_field(words, 4_681, number, link - 4_097);
+                put_field(words, 5_834, number, link - 4_097);
             }
         }
     }
@@ -140,14 +157,15 @@ pub fn rewrite(random: &mut Random, words: &mut [u64]) {
     for number in (0..4_096).filter(|number| !held.contains_key(number)) {
         let any = random.below(512) as u16;
         let place = random.pick(&[0, 1, 2, 511, 512, 0xffff, any]);
-        put_field(words, 4_681, usize::from(number), place);
+        put_field(words, 5_834, usize::from(number), place);
     }
     let matter = words_that_matter(words);
-    for place in (73..4_681).chain(5_705..memory::WORDS) {
+    for place in (73..FINGERS).chain(6_858..memory::WORDS) {
         if !matter.contains(&place) {
             words[place] = random.bits();
         }
     }
+    any_fingers(random, words);
     put(words, 0, |root| {
         (root.cell, root.parent, root.next) = (random.cell(), random.cell(), random.cell());
     });

@@ -2,7 +2,7 @@
 
 use beside::book_calls::{self, RulesListed};
 use beside::lent::Lent;
-use beside::shapes::{few, rewrite, times};
+use beside::shapes::{any_fingers, few, rewrite, times};
 use model::book::Book;
 use model::questions::Question;
 use model::random::{damaged, term_cells, Random};
@@ -241,6 +241,38 @@ fn the_inside_makes_no_difference() {
         for _ in 0..20 {
             pair.all_four(&few(&mut random));
         }
+    }
+}
+
+/// A verb with one noun of many: long lists of siblings, in some of them a blank.
+fn sibling(random: &mut Random) -> Vec<u16> {
+    let (near, far) = (random.below(400) as u16, random.below(4_096) as u16);
+    let noun = random.pick(&[0x8000, near, near, far]);
+    let last = random.pick(&[0x0007, 0x8000, noun.max(0x7fff) + 1]);
+    vec![0x2000 | random.below(2) as u16, noun, last]
+}
+
+/// Fingers are hints: with those that adding and removing leave, and with any others, the answers are the same.
+#[test]
+fn fingers_make_no_difference() {
+    let mut random = Random::new(604);
+    for _ in 0..times(6) {
+        let mut pair = Pair::of(&[]);
+        for _ in 0..random.between(100, 400) {
+            pair.add(random.below(4_096) as u16, &sibling(&mut random));
+        }
+        let held: Vec<u16> = pair.model.rules().keys().copied().collect();
+        for number in held.iter().filter(|number| *number % 3 == 0) {
+            pair.remove(*number);
+        }
+        for turn in 0..40 {
+            if turn % 4 == 3 {
+                pair.lent.call(|words| any_fingers(&mut random, words));
+            }
+            pair.all_four(&sibling(&mut random));
+            pair.add(random.below(4_096) as u16, &sibling(&mut random));
+        }
+        assert_eq!(pair.lent.call(|words| book_calls::passes(words)), 0);
     }
 }
 
