@@ -2,8 +2,9 @@
 //
 //   word 0 to 4,680       the tree: the node map (64 words), the rule map (8), the root and the nodes, and behind them
 //                         the rules, which hang below the last nodes of their forms (crate `tree`)
-//   word 4,681 to 5,704   places: for each rule number the place of its record, four to a word
-//   word 5,705 + 9 r      the record at the place r: the length of the term, and 8 words with its 32 cells
+//   word 4,681 to 5,833   fingers: hints for the search, four to a word (`tree::fingers`)
+//   word 5,834 to 6,857   places: for each rule number the place of its record, four to a word
+//   word 6,858 + 9 r      the record at the place r: the length of the term, and 8 words with its 32 cells
 //
 // A place of a number means something only where the rule there has that number, so removing a rule writes neither
 // places nor records.
