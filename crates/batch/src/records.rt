@@ -131,7 +131,14 @@ pub fn ask(book: &[u64], kind: u16, question: &[u16], out: &mut [u16]) -> usize
     requires { ⌜ IsTerm (now question) ⌝ }
     ensures { λ n. ⌜ Writes (asks (rulesIn (now (book .entry))) kind (now (question .entry)) .answer) (now (out .entry)) (now (out .exit)) n ⌝ }
 {
-    let marks = questions::ask(book, fills_question(kind), fills_rule(kind), question);
+    let mut marks = [0u64; 64];
+    questions::mark_answers(
+        book,
+        fills_question(kind),
+        fills_rule(kind),
+        question,
+        &mut marks,
+    );
     if !has_room(&marks, out.len()) {
         return 0;
     }

@@ -1,31 +1,19 @@
 -- Writing the list: up to each mark the numbers before it stand in front, and the cells behind them are as they were.
 use mathlib.Core.Path.{_≡_, refl, sym, ap, ap₂, _∙_}
-use mathlib.Core.Logic.{_⊎_, inl, inr}
 use mathlib.Core.List.{List, [], _∷_, _++_, append-assoc}
 use mathlib.Core.Bool.{Bool, true, false}
 use Prim.Native.Nat.{ℕ, zero, suc, _+_, _-_, _≤_, _<_}
 use native.Mathlib.Omega.{arith}
 use borrow.Author.Tests.{eqb-true, eq-eqb}
-use lib.ListN.{length, getD, set, drop, replicate, length-append, length-drop}
+use lib.ListN.{length, getD, set, drop, length-append, length-drop}
 use Rattle.bits.specs.Packed.{bits, First}
 use Rattle.bits.specs.Laws.{length-bits}
-use Rattle.term.specs.Counting.{true≢false}
 use Rattle.tree.specs.Tally.{marked}
-use Rattle.tree.specs.Tallies.{tally-le, no-mark}
-use Rattle.tree.specs.Promises.{Marked}
+use Rattle.tree.specs.Tallies.{tally-le}
 use Rattle.book.specs.Rules.{each}
 use Rattle.questions.specs.Asking.{numbers, keepIf}
-use Rattle.questions.specs.Promises.{Answering, Searched, Asked, Lists}
+use Rattle.questions.specs.Promises.{Lists}
 use Rattle.questions.specs.Listing.{numbers-skip, numbers-one, numbers-more, numbers-tally}
-
--- ---- the marks of a search that begins with none
-
-pub asked : (fq fr : Bool) (ws q marks : List ℕ) → Searched fq fr ws q (replicate 64 0) marks → Asked fq fr ws q marks
-asked fq fr ws q marks s k = ((λ m. of (s k .0 m)), (λ a. s k .1 (inr a)))
-  where
-    of : Marked (replicate 64 0) k ⊎ Answering fq fr ws q k → Answering fq fr ws q k
-    of (inl m) = absurd (true≢false m (no-mark 64 k))
-    of (inr a) = a
 
 -- ---- from mark to mark
 

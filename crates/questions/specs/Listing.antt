@@ -1,13 +1,13 @@
 -- The marked numbers in order: what a walk from mark to mark writes, how many they are, and that they are the answers.
 use mathlib.Core.Path.{_≡_, refl, sym, ap, _∙_, subst}
-use mathlib.Core.Logic.{_↔_}
+use mathlib.Core.Logic.{_⊎_, inl, inr, _↔_}
 use mathlib.Core.List.{List, _++_, append-nil, List·Memᴰ}
 use mathlib.Core.Bool.{Bool, true, false}
 use Prim.Native.Nat.{ℕ, zero, suc, _+_, _-_, _*_, _≤_, _<_}
 use native.Mathlib.Omega.{arith}
 use borrow.Author.Tests.{eq-eqb}
 use lib.Dec.{eqb}
-use lib.ListN.{length, getD, length-append}
+use lib.ListN.{length, getD, replicate, length-append}
 use lib.Seq.{ext-getD}
 use Rattle.bits.specs.Packed.{bits, sum}
 use Rattle.bits.specs.Laws.{length-bits, bit-low}
@@ -16,7 +16,8 @@ use Rattle.term.specs.Questions.{Mode}
 use Rattle.term.specs.Machine.{accepts, fillsQuestion, fillsRule}
 use Rattle.term.specs.Counting.{true≢false}
 use Rattle.tree.specs.Tally.{bit, tally, marked}
-use Rattle.tree.specs.Tallies.{map-tally}
+use Rattle.tree.specs.Tallies.{map-tally, no-mark}
+use Rattle.tree.specs.Promises.{Marked}
 use Rattle.book.specs.Rules.{Held, nothing, rule, each}
 use Rattle.book.specs.Gathered.{each-same, each-split, each-none, rule-inj, not-rule}
 use Rattle.book.specs.Memory.{Passing, rulesIn}
@@ -24,7 +25,7 @@ use Rattle.book.specs.Promises.{IsTerm}
 use Rattle.book.specs.Facts.{limited}
 use Rattle.questions.specs.Asking.{keepIf, numbers, answering, answers, Listed}
 use Rattle.questions.specs.Demand2.{lists}
-use Rattle.questions.specs.Promises.{Asked}
+use Rattle.questions.specs.Promises.{Answering, Searched, Asked}
 
 module _ (u : ℕ → Bool) where
   -- from one mark to the next
@@ -60,6 +61,14 @@ module _ (u : ℕ → Bool) where
 -- they are as many as the set bits
 pub numbers-count : (marks : List ℕ) → length marks ≡ 64 → sum (bits marks) ≡ length (numbers (marked marks) 4096)
 numbers-count marks h = map-tally marks ∙ ap (tally (marked marks)) (omega (arith, h)) ∙ sym (numbers-tally (marked marks) 4096)
+
+-- a search that begins with no mark leaves those of the rules that answer
+pub asked : (fq fr : Bool) (ws q marks : List ℕ) → Searched fq fr ws q (replicate 64 0) marks → Asked fq fr ws q marks
+asked fq fr ws q marks s k = ((λ m. of (s k .0 m)), (λ a. s k .1 (inr a)))
+  where
+    of : Marked (replicate 64 0) k ⊎ Answering fq fr ws q k → Answering fq fr ws q k
+    of (inl m) = absurd (true≢false m (no-mark 64 k))
+    of (inr a) = a
 
 -- and where the marks are those of the rules that answer, they are the answers
 pub numbers-answers : (mode : Mode) (ws q marks : List ℕ) → Asked (fillsQuestion mode) (fillsRule mode) ws q marks → numbers (marked marks) 4096 ≡ answers mode q (rulesIn ws)

@@ -11,7 +11,7 @@ ghost use Rattle.book.specs.Memory.{Passing};
 ghost use Rattle.book.specs.Promises.{IsTerm};
 ghost use Rattle.tree.specs.Tally.{marked};
 ghost use Rattle.questions.specs.Asking.{numbers};
-ghost use Rattle.questions.specs.Promises.{Turned, Placed, Sought, Decisive, Skips, moved, Threaded, Stood, Became, IsRoot, Rooted, Searched, Asked, Lists};
+ghost use Rattle.questions.specs.Promises.{Turned, Placed, Sought, Decisive, Skips, moved, Threaded, Stood, Became, IsRoot, Rooted, Searched, Lists};
 use term::machine;
 
 // A point still to be tried: a link, the subterms of a rule still to skip there, and the place in the question.
@@ -256,17 +256,6 @@ pub fn mark_answers(
     let first = root(m);
     let mut list = [first; 35];
     search(m, fills_question, fills_rule, question, marks, &mut list);
-}
-
-// The rules that answer, a mark at each number.
-pub fn ask(m: &[u64], fills_question: bool, fills_rule: bool, question: &[u16]) -> [u64; 64]
-    requires { ⌜ Passing (now m) ⌝ }
-    requires { ⌜ IsTerm (now question) ⌝ }
-    ensures { λ r. ⌜ Asked «fills_question» «fills_rule» (now (m .entry)) (now (question .entry)) r ⌝ }
-{
-    let mut marks = [0u64; 64];
-    mark_answers(m, fills_question, fills_rule, question, &mut marks);
-    marks
 }
 
 // Writes the marked numbers, ascending, from the front of `out`, and answers how many they are.
