@@ -9,7 +9,7 @@ use native.Mathlib.Omega.{arith}
 use lib.ListN.{length, length-set}
 use borrow.Rule.Slice.PartMut.{putMid, same-len-mid, mid-len}
 use Rattle.book.specs.Memory.{rulesIn}
-use Rattle.tree.specs.Tally.{marked}
+use Rattle.bits.specs.Numbers.{NumberSet, has}
 use Rattle.questions.specs.Asking.{numbers, answers}
 use Rattle.questions.specs.Promises.{Asked}
 use Rattle.questions.specs.Listing.{asked}
@@ -21,7 +21,7 @@ use Rattle.batch.proofs.records.ask.Tie as tie
 
 module _ (r : tie.After-mark-answers) where
   abbrev s : tie.Start
-  s = r .before .before .before .before .before .before .before
+  s = r .before .before .before .before .before .before .before .before .before .before
 
   abbrev marks : List ℕ
   marks = r .mark-answers .last .1 .1 .1 .1 .0
@@ -33,32 +33,32 @@ module _ (r : tie.After-mark-answers) where
   fr = r .before .before .fills-rule .result
 
   answering : Asked fq fr (s .args .book .now) (s .args .question .now) marks
-  answering = asked fq fr (s .args .book .now) (s .args .question .now) marks (r .mark-answers .ensures)
+  answering = asked fq fr (s .args .book .now) (s .args .question .now) _ marks (r .before .before .before .before .before .empty .ensures .none) (r .mark-answers .ensures)
 
-  marks-long : length marks ≡ 64
-  marks-long = r .mark-answers .kept .1 .1 .1 .1 .0
+  map : NumberSet marks
+  map = r .mark-answers .ensures .map
 
-  answers-are : numbers (marked marks) 4096 ≡ answers (modeOf (s .args .kind)) (s .args .question .now) (rulesIn (s .args .book .now))
+  answers-are : numbers (has marks) 4096 ≡ answers (modeOf (s .args .kind)) (s .args .question .now) (rulesIn (s .args .book .now))
   answers-are = these (s .args .book .now) (s .args .question .now) marks (s .args .kind) fq fr (r .before .before .before .fills-question .ensures) (r .before .before .fills-rule .ensures) answering
 
-  few : length (numbers (marked marks) 4096) ≤ 512
+  few : length (numbers (has marks) 4096) ≤ 512
   few = never-many (s .args .book .now) (s .args .question .now) marks (s .args .kind) fq fr (r .before .before .before .fills-question .ensures) (r .before .before .fills-rule .ensures) answering (s .pre .0)
 
 returns : tie.Need-returns
 returns c =
     let out = s (c .before .before .before .before) .args .out .now in
-    let h = ltb-false (length (numbers (marked (marks (c .before .before .before .before))) 4096)) (length out) (sym (c .before .has-room .ensures) ∙ not-true _ (c .if1 .taken)) in
+    let h = ltb-false (length (numbers (has (marks (c .before .before .before .before))) 4096)) (length out) (sym (c .before .has-room .ensures) ∙ not-true _ (c .if1 .taken)) in
     no-room (asks (rulesIn (s (c .before .before .before .before) .args .book .now)) (s (c .before .before .before .before) .args .kind) (s (c .before .before .before .before) .args .question .now) .answer) out (subst (λ (n : ℕ). length out ≤ n) (ap length (answers-are (c .before .before .before .before))) h)
 
 -- the list has room
-room : (e : tie.Else1) → length (numbers (marked (marks (e .before .before .before .before))) 4096) < length (s (e .before .before .before .before) .args .out .now)
-room e = ltb-true (length (numbers (marked (marks (e .before .before .before .before))) 4096)) (length (s (e .before .before .before .before) .args .out .now)) (sym (e .before .has-room .ensures) ∙ not-false _ (e .if1 .left))
+room : (e : tie.Else1) → length (numbers (has (marks (e .before .before .before .before))) 4096) < length (s (e .before .before .before .before) .args .out .now)
+room e = ltb-true (length (numbers (has (marks (e .before .before .before .before))) 4096)) (length (s (e .before .before .before .before) .args .out .now)) (sym (e .before .has-room .ensures) ∙ not-false _ (e .if1 .left))
 
 list-requires : tie.Need-list-requires
 list-requires c κs =
     let out = s (c .before .before .before .before .before .before) .args .out .now in
     let h = room (c .before .before) in
-    (marks-long (c .before .before .before .before .before .before), fits _ _ _ h (mid-len 1 (length out) out (omega arith)))
+    (map (c .before .before .before .before .before .before), fits _ _ _ h (mid-len 1 (length out) out (omega arith)))
   where
     fits : (n k m : ℕ) → n < k → m ≡ k - 1 → n ≤ m
     fits n k m h e = omega arith
@@ -117,12 +117,14 @@ pub ask-spec : {M : Type 1} → statement M
 ask-spec =
     tie.close
     (tie.spec
+    (λ c. search needs)
+    (λ c κs. search needs)
     (λ c κs. search needs)
     (λ c κs. search needs)
     (λ c. search needs)
-    (λ c κs. search needs)
+    (λ c κs. let s = c .before .before .before .before .before .before .before .before .before in (s .pre .0, (s .pre .1 .1, c .before .before .before .before .empty .ensures .is-set)))
     (λ c. search needs)
-    (λ c κs. (marks-long (c .before .before), few (c .before .before)))
+    (λ c κs. (map (c .before .before), few (c .before .before)))
     returns
     (λ c. search needs)
     sub-list
