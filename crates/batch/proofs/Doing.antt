@@ -8,9 +8,9 @@ use native.Mathlib.Decide.{ℕ-discrete}
 use lib.Dec.{eqb}
 use lib.ListN.{length, take, drop, replicate}
 use lib.Seq.{take-append-seam}
+use Rattle.bits.specs.Numbers.{has}
 use Rattle.term.specs.Counting.{true≢false}
 use Rattle.term.specs.Machine.{fillsQuestion, fillsRule}
-use Rattle.tree.specs.Tally.{marked}
 use Rattle.book.specs.declared.Added.{Added}
 use Rattle.book.specs.declared.Added.the-variants.{Taken, HeldAlready, BookFull, NoNodes}
 use Rattle.book.specs.declared.Removed.{Removed}
@@ -115,7 +115,7 @@ pub rule-filled : (k : ℕ) → 2 ≤ k → k ≤ 5 → ¬ (k ≡ 4) → eqb k 5
 rule-filled k a b = four (λ j. ¬ (j ≡ 4) → eqb j 5 ≡ fillsRule (modeOf j)) k a b (λ n. refl) (λ n. refl) (λ n. absurd (n refl)) (λ n. refl)
 
 module _ (ws q marks : List ℕ) (kind : ℕ) (a b : Bool) (ea : a ≡ fillsQuestion (modeOf kind)) (eb : b ≡ fillsRule (modeOf kind)) (asked : Asked a b ws q marks) where
-  pub these : numbers (marked marks) 4096 ≡ answers (modeOf kind) q (rulesIn ws)
+  pub these : numbers (has marks) 4096 ≡ answers (modeOf kind) q (rulesIn ws)
   these = numbers-answers (modeOf kind) ws q marks (subst (λ (x : Bool). Asked (fillsQuestion (modeOf kind)) x ws q marks) eb (subst (λ (x : Bool). Asked x b ws q marks) ea asked))
 
   pub as-many : (out out′ : List ℕ) (n : ℕ) → Lists marks out out′ n → n ≡ length (answers (modeOf kind) q (rulesIn ws))
@@ -124,7 +124,7 @@ module _ (ws q marks : List ℕ) (kind : ℕ) (a b : Bool) (ea : a ≡ fillsQues
   pub listed-are : (out out′ : List ℕ) (n : ℕ) → Lists marks out out′ n → out′ ≡ answers (modeOf kind) q (rulesIn ws) ++ drop (length (answers (modeOf kind) q (rulesIn ws))) out
   listed-are out out′ n l = l .is ∙ ap₂ (λ (z : List ℕ) (k : ℕ). z ++ drop k out) these (as-many out out′ n l)
 
-  pub never-many : Passing ws → length (numbers (marked marks) 4096) ≤ 512
+  pub never-many : Passing ws → length (numbers (has marks) 4096) ≤ 512
   never-many p = omega (arith, ap length these, never-more (modeOf kind) q (rulesIn ws), limited ws p .few)
 
 -- ---- showing

@@ -5,7 +5,7 @@ ghost use mathlib.Core.List.{_++_};
 ghost use Prim.Native.Nat.{_+_, _<_, _≤_};
 ghost use lib.ListN.{length, take, drop};
 ghost use lib.Dec.{ltb};
-ghost use Rattle.tree.specs.Tally.{marked};
+ghost use Rattle.bits.specs.Numbers.{NumberSet, has};
 ghost use Rattle.questions.specs.Asking.{numbers};
 ghost use Rattle.term.specs.Machine.{fillsQuestion, fillsRule};
 ghost use Rattle.book.specs.Rules.{addRefusal};
@@ -114,14 +114,14 @@ pub fn remove(book: &mut [u64], number: u16, out: &mut [u16]) -> usize
 // Is there room for the list of these marks, and a cell before it? A list never has more numbers than a book has rules, so it is
 // only counted where there may be no room for so many.
 fn has_room(marks: &[u64], room: usize) -> bool
-    requires { ⌜ length (now marks) ≡ 64 ⌝ }
-    requires { ⌜ length (numbers (marked (now marks)) 4096) ≤ 512 ⌝ }
-    ensures { λ r. ⌜ r ≡ ltb (length (numbers (marked (now (marks .entry))) 4096)) room ⌝ }
+    requires { ⌜ NumberSet (now marks) ⌝ }
+    requires { ⌜ length (numbers (has (now marks)) 4096) ≤ 512 ⌝ }
+    ensures { λ r. ⌜ r ≡ ltb (length (numbers (has (now (marks .entry))) 4096)) room ⌝ }
 {
     if Book::RULES < room {
         return true;
     }
-    bits::count(marks) < room
+    questions::count(marks) < room
 }
 
 // Lists the rules that answer a question. Whether they have room is known before anything is written.
@@ -131,7 +131,15 @@ pub fn ask(book: &[u64], kind: u16, question: &[u16], out: &mut [u16]) -> usize
     requires { ⌜ IsTerm (now question) ⌝ }
     ensures { λ n. ⌜ Writes (asks (rulesIn (now (book .entry))) kind (now (question .entry)) .answer) (now (out .entry)) (now (out .exit)) n ⌝ }
 {
-    let marks = questions::ask(book, fills_question(kind), fills_rule(kind), question);
+    let mut marks = [0u64; 65];
+    bits::numbers::empty(&mut marks);
+    questions::mark_answers(
+        book,
+        fills_question(kind),
+        fills_rule(kind),
+        question,
+        &mut marks,
+    );
     if !has_room(&marks, out.len()) {
         return 0;
     }

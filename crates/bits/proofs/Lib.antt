@@ -4,3 +4,4 @@ pub mod Counting
 pub mod Passing
 pub mod Searching
 pub mod Comparing
+pub mod Numbering

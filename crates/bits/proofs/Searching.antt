@@ -179,7 +179,7 @@ none-found v ws from n a e s = record { after = a; within = omega (arith, length
 
 -- ---- words that are zero
 
-zero-bit : (ws : List ℕ) (k : ℕ) → getD ws (k / 64) 0 ≡ 0 → getD (bits ws) k 0 ≡ 0
+pub zero-bit : (ws : List ℕ) (k : ℕ) → getD ws (k / 64) 0 ≡ 0 → getD (bits ws) k 0 ≡ 0
 zero-bit ws k z = get-bit ws k ∙ ap (λ (w : ℕ). w / 2 ^ (63 - k % 64) % 2) z ∙ ap (λ (x : ℕ). x % 2) (zero-div (2 ^ (63 - k % 64)))
 
 module _ (ws : List ℕ) (from q i : ℕ) (s : Skipped 1 (bits ws) from (q * 64 + 64)) (n : NextWord ws (q + 1) i) where

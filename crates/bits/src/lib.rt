@@ -2,6 +2,8 @@
 //
 //   field i is field i % 4 of word i / 4:     | 0 | 1 | 2 | 3 |  16 bits each
 //   bit n is bit n % 64 of word n / 64:       |0|1|2| .. |63|    so bit 63 - n % 64 by weight
+pub mod numbers;
+
 ghost use mathlib.Core.Path.{_≡_};
 ghost use Prim.Native.Nat.{_+_, _*_, _≤_, _<_};
 ghost use lib.Dec.{eqb};

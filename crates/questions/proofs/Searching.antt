@@ -9,19 +9,16 @@ use native.Mathlib.Omega.{arith}
 use native.Mathlib.Decide.{ℕ-discrete}
 use lib.ListN.{length, getD, set, take, length-set}
 use lib.Seq.{getD-set-same, getD-set-other}
-use Rattle.bits.specs.Packed.{bits}
+use Rattle.bits.specs.Numbers.{has, Member, NumberSet, Puts}
 use Rattle.term.specs.Cells.{Terms, blankForm}
 use Rattle.term.specs.Machine.{failed, at, run, done}
 use Rattle.term.specs.Steps.{Stands}
 use Rattle.term.specs.Whole.{whole-term}
 use Rattle.tree.specs.Shape.{Shape, child, after, Used, Tree}
 use Rattle.tree.specs.Words.{cellOf, firstOf, nextOf, word}
-use Rattle.tree.specs.Tally.{marked}
-use Rattle.tree.specs.Tallies.{mark-here, mark-other}
 use Rattle.tree.specs.Trie.{Trie, node, trie, height, Bounded, FUEL}
 use Rattle.tree.specs.Unfolded.{no-trie, opens, height-root}
 use Rattle.tree.specs.Search.{keep, hits, pending, work, pending-same, work-same, none-gives, none-less, fail-less, child-gives, child-less, height-next, height-child}
-use Rattle.tree.specs.Promises.{Marked}
 use Rattle.book.specs.Memory.{view, term, Passing, rulesIn}
 use Rattle.book.specs.Holding.{at-holds, holds-at}
 use Rattle.book.specs.Promises.{IsTerm}
@@ -100,16 +97,16 @@ module _ (fq fr : Bool) (ws q : List ℕ) (b : Book ws q) where
   pub record Searching (marks₀ marks : List ℕ) (l : List Point) (d : ℕ) : Type 0 where
     pub deep : d ≤ 34
     pub long : length l ≡ 35
-    pub map : length marks ≡ 64
+    pub map : NumberSet marks
     pub small : (j : ℕ) → j < d → Small q l j
     pub used : (j : ℕ) → j < d → (n : ℕ) → linkAt l j ≡ suc n → Used (view ws .tree) n
     pub high : (j : ℕ) → j < d → j + height (trie (view ws .tree) (linkAt l j)) ≤ 33
     pub sofar : List ℕ
     pub total : sofar ++ pending (next fq fr) (good fq fr) (view ws .tree) d (linkAt l) (walkAt q l) ≡ found fq fr (blankForm q) wq (view ws) low (b .passing .right) bound
-    pub marks-are : (k : ℕ) → Marked marks k ↔ (Marked marks₀ k ⊎ ((n : ℕ) × List·Memᴰ n sofar × (view ws .tree .cell n ≡ k)))
+    pub marks-are : (k : ℕ) → Member marks k ↔ (Member marks₀ k ⊎ ((n : ℕ) × List·Memᴰ n sofar × (view ws .tree .cell n ≡ k)))
 
   -- the root
-  pub starts : (marks : List ℕ) (l : List Point) → length marks ≡ 64 → length l ≡ 35 → linkAt l 0 ≡ view ws .tree .first 0 → getD l 0 (record { link = 0; skip = 0; place = 0 }) .skip ≡ 0 → getD l 0 (record { link = 0; skip = 0; place = 0 }) .place ≡ 0 → Searching marks marks l 1
+  pub starts : (marks : List ℕ) (l : List Point) → NumberSet marks → length l ≡ 35 → linkAt l 0 ≡ view ws .tree .first 0 → getD l 0 (record { link = 0; skip = 0; place = 0 }) .skip ≡ 0 → getD l 0 (record { link = 0; skip = 0; place = 0 }) .place ≡ 0 → Searching marks marks l 1
   unfolding linkAt walkAt
   starts marks l lm long e es ep = record {
     deep = omega arith;
@@ -126,7 +123,7 @@ module _ (fq fr : Bool) (ws q : List ℕ) (b : Book ws q) where
       zeroth : (j : ℕ) → j < 1 → 0 ≡ j
       zeroth j h = omega arith
 
-      go : (k : ℕ) → Marked marks k ⊎ ((n : ℕ) × List·Memᴰ n [] × (view ws .tree .cell n ≡ k)) → Marked marks k
+      go : (k : ℕ) → Member marks k ⊎ ((n : ℕ) × List·Memᴰ n [] × (view ws .tree .cell n ≡ k)) → Member marks k
       go k (inl x) = x
       go k (inr x) = absurd (List·Memᴰ·not-nil (x .1))
 
@@ -318,11 +315,11 @@ module _ (fq fr : Bool) (ws q : List ℕ) (b : Book ws q) where
               let x = found-rule fq fr (blankForm q) wq (view ws) low (b .passing .right) bound n is-found in
               subst (λ (c : ℕ). c < 4096) (ap (view ws .tree .cell) (sym (x .1)) ∙ cell-is) (b .passing .right .records (x .0) (x .2) .low)
 
-          pub marks-it : (marks′ : List ℕ) → length marks′ ≡ length marks → bits marks′ ≡ set (bits marks) (cellOf w) 1 → Searching marks₀ marks′ l₁ (suc k)
-          marks-it marks′ lm em = record {
+          pub marks-it : (marks′ : List ℕ) → Puts marks marks′ (cellOf w) → Searching marks₀ marks′ l₁ (suc k)
+          marks-it marks′ put = record {
             deep = s .deep;
             long = length-set l k beside ∙ s .long;
-            map = lm ∙ s .map;
+            map = put .is-set;
             small = small₁;
             used = used₁;
             high = high₁;
@@ -331,28 +328,25 @@ module _ (fq fr : Bool) (ws q : List ℕ) (b : Book ws q) where
             marks-are = λ j. (to j (ℕ-discrete j (cellOf w)), of j);
           }
             where
-              in-map : cellOf w < 64 * length marks
-              in-map = let h = number-low in omega (arith, s .map)
-
-              widen : (j : ℕ) → Marked marks₀ j ⊎ ((y : ℕ) × List·Memᴰ y (s .sofar) × (view ws .tree .cell y ≡ j)) → Marked marks₀ j ⊎ ((y : ℕ) × List·Memᴰ y (s .sofar ++ (n ∷ [])) × (view ws .tree .cell y ≡ j))
+              widen : (j : ℕ) → Member marks₀ j ⊎ ((y : ℕ) × List·Memᴰ y (s .sofar) × (view ws .tree .cell y ≡ j)) → Member marks₀ j ⊎ ((y : ℕ) × List·Memᴰ y (s .sofar ++ (n ∷ [])) × (view ws .tree .cell y ≡ j))
               widen j (inl x) = inl x
               widen j (inr x) = inr (x .0, Memᴰ·append-left (n ∷ []) (x .1), x .2)
 
-              to : (j : ℕ) → Dec (j ≡ cellOf w) → Marked marks′ j → Marked marks₀ j ⊎ ((y : ℕ) × List·Memᴰ y (s .sofar ++ (n ∷ [])) × (view ws .tree .cell y ≡ j))
+              to : (j : ℕ) → Dec (j ≡ cellOf w) → Member marks′ j → Member marks₀ j ⊎ ((y : ℕ) × List·Memᴰ y (s .sofar ++ (n ∷ [])) × (view ws .tree .cell y ≡ j))
               to j (yes d) x = inr (n, Memᴰ·append-right (s .sofar) (List·Memᴰ·head refl), cell-is ∙ sym d)
-              to j (no d) x = widen j (s .marks-are j .0 (sym (mark-other marks marks′ (cellOf w) 1 in-map em j d) ∙ x))
+              to j (no d) x = widen j (s .marks-are j .0 (sym (put .other j d) ∙ x))
 
-              keeps : (j : ℕ) → Dec (j ≡ cellOf w) → Marked marks j → Marked marks′ j
-              keeps j (yes d) x = ap (marked marks′) d ∙ mark-here marks marks′ (cellOf w) 1 in-map em
-              keeps j (no d) x = mark-other marks marks′ (cellOf w) 1 in-map em j d ∙ x
+              keeps : (j : ℕ) → Dec (j ≡ cellOf w) → Member marks j → Member marks′ j
+              keeps j (yes d) x = ap (has marks′) d ∙ put .here
+              keeps j (no d) x = put .other j d ∙ x
 
-              of : (j : ℕ) → Marked marks₀ j ⊎ ((y : ℕ) × List·Memᴰ y (s .sofar ++ (n ∷ [])) × (view ws .tree .cell y ≡ j)) → Marked marks′ j
+              of : (j : ℕ) → Member marks₀ j ⊎ ((y : ℕ) × List·Memᴰ y (s .sofar ++ (n ∷ [])) × (view ws .tree .cell y ≡ j)) → Member marks′ j
               of j (inl x) = keeps j (ℕ-discrete j (cellOf w)) (s .marks-are j .1 (inl x))
               of j (inr x) = go (List·Memᴰ·append-cases (s .sofar) (x .1))
                 where
-                  go : List·Memᴰ (x .0) (s .sofar) ⊎ List·Memᴰ (x .0) (n ∷ []) → Marked marks′ j
+                  go : List·Memᴰ (x .0) (s .sofar) ⊎ List·Memᴰ (x .0) (n ∷ []) → Member marks′ j
                   go (inl i) = keeps j (ℕ-discrete j (cellOf w)) (s .marks-are j .1 (inr (x .0, i, x .2)))
-                  go (inr i) = ap (marked marks′) (sym (x .2) ∙ ap (view ws .tree .cell) (List·Memᴰ·eq-of-singleton i) ∙ cell-is) ∙ mark-here marks marks′ (cellOf w) 1 in-map em
+                  go (inr i) = ap (has marks′) (sym (x .2) ∙ ap (view ws .tree .cell) (List·Memᴰ·eq-of-singleton i) ∙ cell-is) ∙ put .here
 
         -- the walk goes down
         module _ (nz : ¬ (down ≡ 0)) (f : lists ≡ false) (below : Point) (el : below .link ≡ down) (ek : below .skip ≡ skip′) (eq : below .place ≡ place′) where
@@ -431,13 +425,13 @@ module _ (fq fr : Bool) (ws q : List ℕ) (b : Book ws q) where
   -- ---- the end
 
   pub searched : (marks₀ marks : List ℕ) (l : List Point) (d : ℕ) → Searching marks₀ marks l d → d ≤ 0 → Searched fq fr ws q marks₀ marks
-  searched marks₀ marks l zero s h k = ((λ x. to (s .marks-are k .0 x)), (λ x. s .marks-are k .1 (of x)))
+  searched marks₀ marks l zero s h = record { map = s .map; marks-are = λ k. ((λ x. to k (s .marks-are k .0 x)), (λ x. s .marks-are k .1 (of k x))) }
     where
       whole : s .sofar ≡ found fq fr (blankForm q) wq (view ws) low (b .passing .right) bound
       whole = sym (append-nil (s .sofar)) ∙ s .total
 
-      one : (n : ℕ) → List·Memᴰ n (s .sofar) → view ws .tree .cell n ≡ k → Answering fq fr ws q k
-      one n i e =
+      one : (k n : ℕ) → List·Memᴰ n (s .sofar) → view ws .tree .cell n ≡ k → Answering fq fr ws q k
+      one k n i e =
           let x = found-rule fq fr (blankForm q) wq (view ws) low (b .passing .right) bound n (subst (List·Memᴰ n) whole i) in
           record {
             term = term (view ws) (x .0);
@@ -445,13 +439,13 @@ module _ (fq fr : Bool) (ws q : List ℕ) (b : Book ws q) where
             accepted = x .3;
           }
 
-      to : Marked marks₀ k ⊎ ((n : ℕ) × List·Memᴰ n (s .sofar) × (view ws .tree .cell n ≡ k)) → Marked marks₀ k ⊎ Answering fq fr ws q k
-      to (inl x) = inl x
-      to (inr x) = inr (one (x .0) (x .1) (x .2))
+      to : (k : ℕ) → Member marks₀ k ⊎ ((n : ℕ) × List·Memᴰ n (s .sofar) × (view ws .tree .cell n ≡ k)) → Member marks₀ k ⊎ Answering fq fr ws q k
+      to k (inl x) = inl x
+      to k (inr x) = inr (one k (x .0) (x .1) (x .2))
 
-      of : Marked marks₀ k ⊎ Answering fq fr ws q k → Marked marks₀ k ⊎ ((n : ℕ) × List·Memᴰ n (s .sofar) × (view ws .tree .cell n ≡ k))
-      of (inl x) = inl x
-      of (inr x) =
+      of : (k : ℕ) → Member marks₀ k ⊎ Answering fq fr ws q k → Member marks₀ k ⊎ ((n : ℕ) × List·Memᴰ n (s .sofar) × (view ws .tree .cell n ≡ k))
+      of k (inl x) = inl x
+      of k (inr x) =
           let a = holds-at (view ws) k (x .term) (x .held) in
           inr (4096 + a .place, subst (List·Memᴰ (4096 + a .place)) (sym whole) (rule-found fq fr (blankForm q) wq (view ws) low (b .passing .right) bound (a .place) (a .used) (ap (λ (t : List ℕ). done (run fq fr (at 0 (blankForm q)) (blankForm t))) (a .is) ∙ x .accepted)), a .has)
-  searched marks₀ marks l (suc d) s h k = absurd (omega arith)
+  searched marks₀ marks l (suc d) s h = absurd (omega arith)

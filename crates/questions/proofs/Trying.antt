@@ -5,8 +5,7 @@ use mathlib.Core.List.{List}
 use mathlib.Core.Bool.{Bool, true, false}
 use Prim.Native.Nat.{ℕ}
 use native.Mathlib.Decide.{ℕ-discrete}
-use lib.ListN.{length, set}
-use Rattle.bits.specs.Packed.{bits}
+use Rattle.bits.specs.Numbers.{Puts}
 use Rattle.term.specs.Counting.{true≢false}
 use Rattle.tree.specs.Words.{cellOf}
 use Rattle.questions.specs.declared.Point.{Point}
@@ -34,8 +33,8 @@ module _ (fq fr : Bool) (ws q marks : List ℕ) (p : Point) (depth : ℕ) (some 
     turned = subst (λ (x : Point). Turned fq fr q (wordAt ws p) (p .skip) (p .place) says (x .link) (x .skip) (x .place)) (sym (at .below)) (subst (λ (x : Bool). Turned fq fr q (wordAt ws p) (p .skip) (p .place) x down skip′ place′) f t);
   }
 
-  pub lists-it : lists ≡ true → (marks′ : List ℕ) → length marks′ ≡ length marks → bits marks′ ≡ set (bits marks) (cellOf (wordAt ws p)) 1 → Answered fq fr ws q marks marks′ p depth r
-  lists-it f marks′ long mark = record { tried = tried true f; long = long; mark = mark; level = at .level (none-below fq fr q (wordAt ws p) (p .skip) (p .place) lists down skip′ place′ t f) }
+  pub lists-it : lists ≡ true → (marks′ : List ℕ) → Puts marks marks′ (cellOf (wordAt ws p)) → Answered fq fr ws q marks marks′ p depth r
+  lists-it f marks′ mark = record { tried = tried true f; mark = mark; level = at .level (none-below fq fr q (wordAt ws p) (p .skip) (p .place) lists down skip′ place′ t f) }
 
   pub goes-by : lists ≡ false → Passed fq fr ws q marks marks p depth r ⊎ Deeper fq fr ws q marks marks p depth r
   goes-by f = go (ℕ-discrete down 0)

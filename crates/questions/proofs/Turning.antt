@@ -8,7 +8,7 @@ use native.Mathlib.Omega.{arith}
 use native.Mathlib.Decide.{ℕ-discrete}
 use lib.ListN.{length, getD, set}
 use lib.Seq.{getD-take, getD-set-same}
-use Rattle.bits.specs.Packed.{bits}
+use Rattle.bits.specs.Numbers.{NumberSet, Puts}
 use Rattle.term.specs.Machine.{failed}
 use Rattle.term.specs.Steps.{Stands}
 use Rattle.tree.specs.Shape.{Used}
@@ -32,7 +32,7 @@ abbrev pub Loop : Bool → Bool → (ws q marks₀ marks : List ℕ) → List Po
 Loop fq fr ws q marks₀ marks l depth = (b : Book ws q) × Searching fq fr ws q b marks₀ marks l depth
 
 -- the loop begins at the root
-pub begins : (fq fr : Bool) (ws q marks : List ℕ) (l : List Point) → Passing ws → IsTerm q → length marks ≡ 64 → Rooted ws l → Loop fq fr ws q marks marks l 1
+pub begins : (fq fr : Bool) (ws q marks : List ℕ) (l : List Point) → Passing ws → IsTerm q → NumberSet marks → Rooted ws l → Loop fq fr ws q marks marks l 1
 unfolding linkAt
 begins fq fr ws q marks l pass whole lm r =
     let b : Book ws q = record { passing = pass; whole = whole; words = r .root .words } in
@@ -98,12 +98,11 @@ module _ (fq fr : Bool) (ws q marks₀ marks : List ℕ) (l : List Point) (depth
         none : lists ≡ true → down ≡ 0
         none f = none-below fq fr q w (pointAt l k .skip) (pointAt l k .place) lists down skip′ place′ t f
 
-        number-fits : lists ≡ true → cellOf w < 64 * length marks
-        number-fits f =
-            let x = number-low fq fr ws q (i .0) marks₀ marks l k s n e w w-is beside en refl refl lists down skip′ place′ t f (none f) in omega (arith, i .1 .map)
+        number-fits : lists ≡ true → cellOf w < 4096
+        number-fits f = number-low fq fr ws q (i .0) marks₀ marks l k s n e w w-is beside en refl refl lists down skip′ place′ t f (none f)
 
-        mark : lists ≡ true → (marks′ : List ℕ) → length marks′ ≡ length marks → bits marks′ ≡ set (bits marks) (cellOf w) 1 → Loop fq fr ws q marks₀ marks′ (set l k beside) depth
-        mark f marks′ lm em = (i .0, subst (Searching fq fr ws q (i .0) marks₀ marks′ (set l k beside)) up (marks-it fq fr ws q (i .0) marks₀ marks l k s n e w w-is beside en refl refl lists down skip′ place′ t f (none f) marks′ lm em))
+        mark : lists ≡ true → (marks′ : List ℕ) → Puts marks marks′ (cellOf w) → Loop fq fr ws q marks₀ marks′ (set l k beside) depth
+        mark f marks′ put = (i .0, subst (Searching fq fr ws q (i .0) marks₀ marks′ (set l k beside)) up (marks-it fq fr ws q (i .0) marks₀ marks l k s n e w w-is beside en refl refl lists down skip′ place′ t f (none f) marks′ put))
 
         module _ (nd : ¬ (down ≡ 0)) (f : lists ≡ false) where
           abbrev below : Point
@@ -196,7 +195,7 @@ module _ (fq fr : Bool) (ws q marks₀ marks : List ℕ) (l : List Point) (depth
 -- ---- a turn, at the point itself
 
 module _ (fq fr : Bool) (ws q marks₀ marks : List ℕ) (l : List Point) (depth : ℕ) (i : Loop fq fr ws q marks₀ marks l depth) (h : 0 < depth) where
-  tryable : Tryable fq fr ws q marks (pointAt l (depth - 1))
+  tryable : Tryable fq fr ws q (pointAt l (depth - 1))
   tryable = record {
     within = low (ℕ-discrete (pointAt l (depth - 1) .link) 0);
     number = λ nz g. number-fits fq fr ws q marks₀ marks l depth i h nz _ refl _ refl true 0 0 0 (record { lists-is = sym g; goes = λ d. absurd (d refl); stops = λ _. inr (inl (ended fq fr _ g)) }) refl;
@@ -227,7 +226,7 @@ module _ (fq fr : Bool) (ws q marks₀ marks : List ℕ) (l : List Point) (depth
     of-listed : Answered fq fr ws q marks marks′ (pointAt l (depth - 1)) depth r → After marks′ (listed-after r) (r .depth)
     of-listed e = let t = e .tried in
         subst (After marks′ (listed-after r)) (sym (e .level)) (besides (r .below) (omega arith) (subst (λ (p : Point). After marks′ (set l (depth - 1) p) depth) (sym (t .beside)) (record {
-          again = mark fq fr ws q marks₀ marks l depth i h (t .some) _ refl _ refl true _ _ _ (t .turned) refl marks′ (e .long) (e .mark);
+          again = mark fq fr ws q marks₀ marks l depth i h (t .some) _ refl _ refl true _ _ _ (t .turned) refl marks′ (e .mark);
           fewer = past-less fq fr ws q marks₀ marks l depth i h (t .some) _ refl _ refl true _ _ _ (t .turned);
         })))
 
@@ -266,10 +265,11 @@ module _ (fq fr : Bool) (ws q marks₀ marks : List ℕ) (l : List Point) (depth
   pub stood : Stood fq fr ws q marks (pointAt l (depth - 1)) depth
   stood = record {
     threaded = record { passing = i .0 .passing; used = λ n e. used-at n e };
+    map = i .1 .map;
     stands = stand fq fr ws q marks₀ marks l depth i h;
     some = h;
     deep = i .1 .deep;
-    each = λ x s. subst (Tryable fq fr ws q marks) (at-skipped x) (tryable fq fr ws q marks₀ marks (set l (depth - 1) x) depth (skipped fq fr ws q marks₀ marks l depth i h s .loop) h);
+    each = λ x s. subst (Tryable fq fr ws q) (at-skipped x) (tryable fq fr ws q marks₀ marks (set l (depth - 1) x) depth (skipped fq fr ws q marks₀ marks l depth i h s .loop) h);
   }
     where
       used-at : (n : ℕ) → pointAt l (depth - 1) .link ≡ suc n → Used (view ws .tree) n

@@ -1,31 +1,16 @@
 -- Writing the list: up to each mark the numbers before it stand in front, and the cells behind them are as they were.
 use mathlib.Core.Path.{_≡_, refl, sym, ap, ap₂, _∙_}
-use mathlib.Core.Logic.{_⊎_, inl, inr}
 use mathlib.Core.List.{List, [], _∷_, _++_, append-assoc}
-use mathlib.Core.Bool.{Bool, true, false}
+use mathlib.Core.Bool.{Bool}
 use Prim.Native.Nat.{ℕ, zero, suc, _+_, _-_, _≤_, _<_}
 use native.Mathlib.Omega.{arith}
-use borrow.Author.Tests.{eqb-true, eq-eqb}
-use lib.ListN.{length, getD, set, drop, replicate, length-append, length-drop}
-use Rattle.bits.specs.Packed.{bits, First}
-use Rattle.bits.specs.Laws.{length-bits}
-use Rattle.term.specs.Counting.{true≢false}
-use Rattle.tree.specs.Tally.{marked}
-use Rattle.tree.specs.Tallies.{tally-le, no-mark}
-use Rattle.tree.specs.Promises.{Marked}
+use lib.ListN.{length, set, drop, length-append, length-drop}
+use Rattle.bits.specs.Numbers.{has, Member, NumberSet, NextNumber}
+use Rattle.tree.specs.Tallies.{tally-le}
 use Rattle.book.specs.Rules.{each}
 use Rattle.questions.specs.Asking.{numbers, keepIf}
-use Rattle.questions.specs.Promises.{Answering, Searched, Asked, Lists}
+use Rattle.questions.specs.Promises.{Lists}
 use Rattle.questions.specs.Listing.{numbers-skip, numbers-one, numbers-more, numbers-tally}
-
--- ---- the marks of a search that begins with none
-
-pub asked : (fq fr : Bool) (ws q marks : List ℕ) → Searched fq fr ws q (replicate 64 0) marks → Asked fq fr ws q marks
-asked fq fr ws q marks s k = ((λ m. of (s k .0 m)), (λ a. s k .1 (inr a)))
-  where
-    of : Marked (replicate 64 0) k ⊎ Answering fq fr ws q k → Answering fq fr ws q k
-    of (inl m) = absurd (true≢false m (no-mark 64 k))
-    of (inr a) = a
 
 -- ---- from mark to mark
 
@@ -38,84 +23,82 @@ set-drop n [] v h = absurd (omega arith)
 set-drop zero (y ∷ ys) v h = refl
 set-drop (suc n) (y ∷ ys) v h = set-drop n ys v (omega arith)
 
-pub record Written (marks out₀ out : List ℕ) (n k : ℕ) : Type 0 where
-  pub sized : length marks ≡ 64
-  pub fits : length (numbers (marked marks) 4096) ≤ length out₀
+-- the walk has come to k, a mark or the end, and n numbers are marked before it
+pub record Counted (marks : List ℕ) (n k : ℕ) : Type 0 where
+  pub map : NumberSet marks
   pub upto : k ≤ 4096
-  pub here : k < 4096 → marked marks k ≡ true
-  pub count : n ≡ length (numbers (marked marks) k)
-  pub is : out ≡ numbers (marked marks) k ++ drop n out₀
+  pub here : k < 4096 → Member marks k
+  pub count : n ≡ length (numbers (has marks) k)
 
-module _ (marks : List ℕ) (sized : length marks ≡ 64) where
-  long : length (bits marks) ≡ 4096
-  long = omega (arith, length-bits marks, sized)
+-- and they stand in front
+pub record Written (marks out₀ out : List ℕ) (n k : ℕ) : Type 0 where
+  pub counted : Counted marks n k
+  pub fits : length (numbers (has marks) 4096) ≤ length out₀
+  pub is : out ≡ numbers (has marks) k ++ drop n out₀
 
-  -- no mark between
-  skips : (a b : ℕ) → First 1 (bits marks) a b → numbers (marked marks) b ≡ numbers (marked marks) a
-  skips a b f = numbers-skip (marked marks) a b (f .after) (λ k x y. off (marked marks k) (λ m. f .before k x y (eqb-true (getD (bits marks) k 0) 1 m)))
-    where
-      off : (b : Bool) → ¬ (b ≡ true) → b ≡ false
-      off true n = absurd (n refl)
-      off false n = refl
+-- no mark between
+skips : (marks : List ℕ) (a b : ℕ) → NextNumber marks a 4096 b → numbers (has marks) b ≡ numbers (has marks) a
+skips marks a b f = numbers-skip (has marks) a b (f .after) (f .before)
 
-  at-mark : (a b : ℕ) → First 1 (bits marks) a b → b < 4096 → marked marks b ≡ true
-  at-mark a b f h = eq-eqb (getD (bits marks) b 0) 1 (f .here (omega (arith, long)))
+pub begins-count : (marks : List ℕ) (k : ℕ) → NumberSet marks → NextNumber marks 0 4096 k → Counted marks 0 k
+unfolding each
+begins-count marks k map f = record { map = map; upto = f .within; here = f .here; count = ap length (sym (skips marks 0 k f)) }
 
-  pub begins : (out : List ℕ) (k : ℕ) → length (numbers (marked marks) 4096) ≤ length out → First 1 (bits marks) 0 k → Written marks out out 0 k
-  unfolding each
-  begins out k fits f = record {
-    sized = sized;
-    fits = fits;
-    upto = omega (arith, long, f .within);
-    here = at-mark 0 k f;
-    count = ap length (sym (skips 0 k f));
-    is = ap (λ (z : List ℕ). z ++ out) (sym (skips 0 k f));
-  }
+pub begins : (marks out : List ℕ) (k : ℕ) → NumberSet marks → length (numbers (has marks) 4096) ≤ length out → NextNumber marks 0 4096 k → Written marks out out 0 k
+unfolding each
+begins marks out k map fits f = record { counted = begins-count marks k map f; fits = fits; is = ap (λ (z : List ℕ). z ++ out) (sym (skips marks 0 k f)) }
 
-module _ (marks out₀ out : List ℕ) (n k : ℕ) (w : Written marks out₀ out n k) (h : k < 4096) where
-  one-more : numbers (marked marks) (suc k) ≡ numbers (marked marks) k ++ (k ∷ [])
-  one-more = numbers-one (marked marks) k ∙ ap (λ (b : Bool). numbers (marked marks) k ++ keepIf b k) (w .here h)
+module _ (marks : List ℕ) (n k : ℕ) (c : Counted marks n k) where
+  pub few : n ≤ 4096
+  few = omega (arith, c .count, c .upto, numbers-tally (has marks) k, tally-le (has marks) k)
 
-  longer : length (numbers (marked marks) (suc k)) ≡ suc n
-  longer = ap length one-more ∙ length-append (numbers (marked marks) k) (k ∷ []) ∙ omega (arith, w .count)
+  pub all-counted : 4096 ≤ k → n ≡ length (numbers (has marks) 4096)
+  all-counted h = c .count ∙ ap (λ (j : ℕ). length (numbers (has marks) j)) (let e : k ≡ 4096 = omega (arith, c .upto) in e)
 
-  before-end : n < length out₀
-  before-end = let m = numbers-more (marked marks) (suc k) 4096 (omega arith) in let l = longer in let f = w .fits in omega arith
+  module _ (h : k < 4096) where
+    one-more : numbers (has marks) (suc k) ≡ numbers (has marks) k ++ (k ∷ [])
+    one-more = numbers-one (has marks) k ∙ ap (λ (b : Bool). numbers (has marks) k ++ keepIf b k) (c .here h)
 
-  pub place-in : n < length out
-  place-in = omega (arith, before-end, ap length (w .is) ∙ length-append (numbers (marked marks) k) (drop n out₀), length-drop n out₀, w .count)
+    longer : length (numbers (has marks) (suc k)) ≡ suc n
+    longer = ap length one-more ∙ length-append (numbers (has marks) k) (k ∷ []) ∙ omega (arith, c .count)
 
-  pub writes : (k′ c : ℕ) → c ≡ k → First 1 (bits marks) (k + 1) k′ → Written marks out₀ (set out n c) (n + 1) k′
-  writes k′ c ec f = record {
-    sized = w .sized;
-    fits = w .fits;
-    upto = omega (arith, long marks (w .sized), f .within);
-    here = at-mark marks (w .sized) (k + 1) k′ f;
-    count = omega (arith, longer, ap length same);
-    is = ap₂ (λ (i : ℕ) (z : List ℕ). set z i c) (w .count) (w .is) ∙ set-end (numbers (marked marks) k) (drop n out₀) c
-        ∙ ap (λ (z : List ℕ). numbers (marked marks) k ++ z) (set-drop n out₀ c before-end ∙ ap₂ (λ (x y : ℕ). x ∷ drop y out₀) ec next-n)
-        ∙ sym (append-assoc (numbers (marked marks) k) (k ∷ []) (drop (n + 1) out₀))
-        ∙ ap (λ (z : List ℕ). z ++ drop (n + 1) out₀) (sym (same ∙ one-more));
-  }
-    where
-      next-n : suc n ≡ n + 1
-      next-n = omega arith
+    module _ (k′ : ℕ) (f : NextNumber marks (k + 1) 4096 k′) where
+      same : numbers (has marks) k′ ≡ numbers (has marks) (suc k)
+      same = skips marks (k + 1) k′ f ∙ ap (numbers (has marks)) (let e : k + 1 ≡ suc k = omega arith in e)
 
-      next-k : k + 1 ≡ suc k
-      next-k = omega arith
+      pub counts-on : Counted marks (n + 1) k′
+      counts-on = record { map = c .map; upto = f .within; here = f .here; count = omega (arith, longer, ap length same) }
 
-      same : numbers (marked marks) k′ ≡ numbers (marked marks) (suc k)
-      same = skips marks (w .sized) (k + 1) k′ f ∙ ap (numbers (marked marks)) next-k
+      pub less : 4096 - k′ < 4096 - k
+      less = let a = f .after in omega arith
 
-pub few : (marks out₀ out : List ℕ) (n k : ℕ) → Written marks out₀ out n k → n ≤ 4096
-few marks out₀ out n k w = omega (arith, w .count, w .upto, numbers-tally (marked marks) k, tally-le (marked marks) k)
+module _ (marks out₀ out : List ℕ) (n k : ℕ) (w : Written marks out₀ out n k) where
+  module _ (h : k < 4096) where
+    before-end : n < length out₀
+    before-end = let m = numbers-more (has marks) (suc k) 4096 (omega arith) in let l = longer marks n k (w .counted) h in let f = w .fits in omega arith
 
-pub written : (marks out₀ out : List ℕ) (n k : ℕ) → Written marks out₀ out n k → 4096 ≤ k → Lists marks out₀ out n
-written marks out₀ out n k w h =
-    let e : k ≡ 4096 = omega (arith, w .upto) in
-    record { count = w .count ∙ ap (λ (j : ℕ). length (numbers (marked marks) j)) e; is = w .is ∙ ap (λ (j : ℕ). numbers (marked marks) j ++ drop n out₀) e }
+    pub place-in : n < length out
+    place-in = omega (arith, before-end, ap length (w .is) ∙ length-append (numbers (has marks) k) (drop n out₀), length-drop n out₀, w .counted .count)
 
-pub still-long : (marks out₀ out : List ℕ) (n k : ℕ) → Written marks out₀ out n k → length out ≡ length out₀
-still-long marks out₀ out n k w =
-    let m = numbers-more (marked marks) k 4096 (w .upto) in let f = w .fits in
-    omega (arith, ap length (w .is) ∙ length-append (numbers (marked marks) k) (drop n out₀), length-drop n out₀, w .count)
+    pub writes : (k′ c : ℕ) → c ≡ k → NextNumber marks (k + 1) 4096 k′ → Written marks out₀ (set out n c) (n + 1) k′
+    writes k′ c ec f = record {
+      counted = counts-on marks n k (w .counted) h k′ f;
+      fits = w .fits;
+      is = ap₂ (λ (i : ℕ) (z : List ℕ). set z i c) (w .counted .count) (w .is) ∙ set-end (numbers (has marks) k) (drop n out₀) c
+          ∙ ap (λ (z : List ℕ). numbers (has marks) k ++ z) (set-drop n out₀ c before-end ∙ ap₂ (λ (x y : ℕ). x ∷ drop y out₀) ec next-n)
+          ∙ sym (append-assoc (numbers (has marks) k) (k ∷ []) (drop (n + 1) out₀))
+          ∙ ap (λ (z : List ℕ). z ++ drop (n + 1) out₀) (sym (same marks n k (w .counted) h k′ f ∙ one-more marks n k (w .counted) h));
+    }
+      where
+        next-n : suc n ≡ n + 1
+        next-n = omega arith
+
+  pub written : 4096 ≤ k → Lists marks out₀ out n
+  written h =
+      let e : k ≡ 4096 = omega (arith, w .counted .upto) in
+      record { count = all-counted marks n k (w .counted) h; is = w .is ∙ ap (λ (j : ℕ). numbers (has marks) j ++ drop n out₀) e }
+
+  pub still-long : length out ≡ length out₀
+  still-long =
+      let m = numbers-more (has marks) k 4096 (w .counted .upto) in let f = w .fits in
+      omega (arith, ap length (w .is) ∙ length-append (numbers (has marks) k) (drop n out₀), length-drop n out₀, w .counted .count)

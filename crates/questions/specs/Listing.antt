@@ -1,22 +1,20 @@
--- The marked numbers in order: what a walk from mark to mark writes, how many they are, and that they are the answers.
+-- The has numbers in order: what a walk from mark to mark writes, how many they are, and that they are the answers.
 use mathlib.Core.Path.{_≡_, refl, sym, ap, _∙_, subst}
-use mathlib.Core.Logic.{_↔_}
+use mathlib.Core.Logic.{_⊎_, inl, inr, _↔_}
 use mathlib.Core.List.{List, _++_, append-nil, List·Memᴰ}
 use mathlib.Core.Bool.{Bool, true, false}
 use Prim.Native.Nat.{ℕ, zero, suc, _+_, _-_, _*_, _≤_, _<_}
 use native.Mathlib.Omega.{arith}
 use borrow.Author.Tests.{eq-eqb}
 use lib.Dec.{eqb}
-use lib.ListN.{length, getD, length-append}
+use lib.ListN.{length, getD, replicate, length-append}
 use lib.Seq.{ext-getD}
-use Rattle.bits.specs.Packed.{bits, sum}
-use Rattle.bits.specs.Laws.{length-bits, bit-low}
+use Rattle.bits.specs.Numbers.{has, Member}
 use Rattle.term.specs.Cells.{blankForm}
 use Rattle.term.specs.Questions.{Mode}
 use Rattle.term.specs.Machine.{accepts, fillsQuestion, fillsRule}
 use Rattle.term.specs.Counting.{true≢false}
-use Rattle.tree.specs.Tally.{bit, tally, marked}
-use Rattle.tree.specs.Tallies.{map-tally}
+use Rattle.tree.specs.Tally.{bit, tally}
 use Rattle.book.specs.Rules.{Held, nothing, rule, each}
 use Rattle.book.specs.Gathered.{each-same, each-split, each-none, rule-inj, not-rule}
 use Rattle.book.specs.Memory.{Passing, rulesIn}
@@ -24,7 +22,7 @@ use Rattle.book.specs.Promises.{IsTerm}
 use Rattle.book.specs.Facts.{limited}
 use Rattle.questions.specs.Asking.{keepIf, numbers, answering, answers, Listed}
 use Rattle.questions.specs.Demand2.{lists}
-use Rattle.questions.specs.Promises.{Asked}
+use Rattle.questions.specs.Promises.{Answering, Searched, Asked}
 
 module _ (u : ℕ → Bool) where
   -- from one mark to the next
@@ -57,53 +55,48 @@ module _ (u : ℕ → Bool) where
       one true = refl
       one false = refl
 
--- they are as many as the set bits
-pub numbers-count : (marks : List ℕ) → length marks ≡ 64 → sum (bits marks) ≡ length (numbers (marked marks) 4096)
-numbers-count marks h = map-tally marks ∙ ap (tally (marked marks)) (omega (arith, h)) ∙ sym (numbers-tally (marked marks) 4096)
+-- a search that begins with no mark leaves those of the rules that answer
+pub asked : (fq fr : Bool) (ws q none marks : List ℕ) → ((k : ℕ) → has none k ≡ false) → Searched fq fr ws q none marks → Asked fq fr ws q marks
+asked fq fr ws q none marks e s k = ((λ m. of (s .marks-are k .0 m)), (λ a. s .marks-are k .1 (inr a)))
+  where
+    of : Member none k ⊎ Answering fq fr ws q k → Answering fq fr ws q k
+    of (inl m) = absurd (true≢false m (e k))
+    of (inr a) = a
+
+is : (b c : Bool) → (b ≡ true → c ≡ true) → (c ≡ true → b ≡ true) → b ≡ c
+is true true f g = refl
+is true false f g = absurd (true≢false (f refl) refl)
+is false true f g = absurd (true≢false (g refl) refl)
+is false false f g = refl
 
 -- and where the marks are those of the rules that answer, they are the answers
-pub numbers-answers : (mode : Mode) (ws q marks : List ℕ) → Asked (fillsQuestion mode) (fillsRule mode) ws q marks → numbers (marked marks) 4096 ≡ answers mode q (rulesIn ws)
+pub numbers-answers : (mode : Mode) (ws q marks : List ℕ) → Asked (fillsQuestion mode) (fillsRule mode) ws q marks → numbers (has marks) 4096 ≡ answers mode q (rulesIn ws)
 unfolding answers
-numbers-answers mode ws q marks a = each-same (λ k. keepIf (marked marks k) k) (λ k. answering mode q (rulesIn ws k) k) 4096 0 (λ k x y. same k (rulesIn ws k) refl)
+numbers-answers mode ws q marks a = each-same (λ k. keepIf (has marks k) k) (λ k. answering mode q (rulesIn ws k) k) 4096 0 (λ k x y. same k (rulesIn ws k) refl)
   where
-    is : (b c : Bool) → (b ≡ true → c ≡ true) → (c ≡ true → b ≡ true) → b ≡ c
-    is true true f g = refl
-    is true false f g = absurd (true≢false (f refl) refl)
-    is false true f g = absurd (true≢false (g refl) refl)
-    is false false f g = refl
-
     off : (b : Bool) → ¬ (b ≡ true) → b ≡ false
     off true n = absurd (n refl)
     off false n = refl
 
-    same : (k : ℕ) (h : Held) → rulesIn ws k ≡ h → keepIf (marked marks k) k ≡ answering mode q h k
-    same k nothing e = ap (λ (b : Bool). keepIf b k) (off (marked marks k) (λ m. not-rule (sym e ∙ a k .0 m .held)))
+    same : (k : ℕ) (h : Held) → rulesIn ws k ≡ h → keepIf (has marks k) k ≡ answering mode q h k
+    same k nothing e = ap (λ (b : Bool). keepIf b k) (off (has marks k) (λ m. not-rule (sym e ∙ a k .0 m .held)))
     same k (rule t) e = ap (λ (b : Bool). keepIf b k)
-        (is (marked marks k) (accepts mode (blankForm q) (blankForm t))
+        (is (has marks k) (accepts mode (blankForm q) (blankForm t))
         (λ m. let x = a k .0 m in subst (λ (s : List ℕ). accepts mode (blankForm q) (blankForm s) ≡ true) (rule-inj (sym (x .held) ∙ e)) (x .accepted))
         (λ m. a k .1 (record { term = t; held = e; accepted = m })))
 
 -- Demand 2 for a book: what is listed is each rule that is in the relation with the question, and no other.
 pub exactly : (mode : Mode) (ws q marks : List ℕ) → Passing ws → IsTerm q → Asked (fillsQuestion mode) (fillsRule mode) ws q marks
-    → (k : ℕ) → List·Memᴰ k (numbers (marked marks) 4096) ↔ Listed mode q (rulesIn ws) k
+    → (k : ℕ) → List·Memᴰ k (numbers (has marks) 4096) ↔ Listed mode q (rulesIn ws) k
 exactly mode ws q marks p w a k =
     let same = numbers-answers mode ws q marks a in
     let l = lists mode q (rulesIn ws) w (limited ws p .whole) k in
     ((λ i. l .0 (subst (List·Memᴰ k) same i)), (λ x. subst (List·Memᴰ k) (sym same) (l .1 x)))
 
--- One outcome: every bit of the marks is fixed, and books with the same rules give the same list.
-pub asked-once : (fq fr : Bool) (ws q a b : List ℕ) → length a ≡ 64 → length b ≡ 64 → Asked fq fr ws q a → Asked fq fr ws q b → bits a ≡ bits b
-asked-once fq fr ws q a b la lb x y = ext-getD 0 (bits a) (bits b) (length-bits a ∙ ap (λ (n : ℕ). 64 * n) (la ∙ sym lb) ∙ sym (length-bits b)) (λ k h. same k)
-  where
-    one : (m n : ℕ) → m < 2 → n < 2 → (eqb m 1 ≡ true → eqb n 1 ≡ true) → (eqb n 1 ≡ true → eqb m 1 ≡ true) → m ≡ n
-    one zero zero h i f g = refl
-    one zero (suc n) h i f g = absurd (true≢false (g (eq-eqb (suc n) 1 (omega arith))) refl)
-    one (suc m) zero h i f g = absurd (true≢false (f (eq-eqb (suc m) 1 (omega arith))) refl)
-    one (suc m) (suc n) h i f g = omega arith
-
-    same : (k : ℕ) → getD (bits a) k 0 ≡ getD (bits b) k 0
-    same k = one (getD (bits a) k 0) (getD (bits b) k 0) (bit-low a k) (bit-low b k) (λ m. y k .1 (x k .0 m)) (λ m. x k .1 (y k .0 m))
+-- One outcome: each number is fixed, and books with the same rules give the same list.
+pub asked-once : (fq fr : Bool) (ws q a b : List ℕ) → Asked fq fr ws q a → Asked fq fr ws q b → (k : ℕ) → has a k ≡ has b k
+asked-once fq fr ws q a b x y k = is (has a k) (has b k) (λ m. y k .1 (x k .0 m)) (λ m. x k .1 (y k .0 m))
 
 pub asked-alike : (mode : Mode) (ws vs q a b : List ℕ) → rulesIn ws ≡ rulesIn vs → Asked (fillsQuestion mode) (fillsRule mode) ws q a → Asked (fillsQuestion mode) (fillsRule mode) vs q b
-    → numbers (marked a) 4096 ≡ numbers (marked b) 4096
+    → numbers (has a) 4096 ≡ numbers (has b) 4096
 asked-alike mode ws vs q a b e x y = numbers-answers mode ws q a x ∙ ap (answers mode q) e ∙ sym (numbers-answers mode vs q b y)

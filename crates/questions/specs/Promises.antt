@@ -4,14 +4,12 @@ use mathlib.Core.Logic.{_⊎_, _↔_}
 use mathlib.Core.List.{List, _++_}
 use mathlib.Core.Bool.{Bool, true, false}
 use Prim.Native.Nat.{ℕ, suc, _+_, _-_, _*_, _^_, _≤_, _<_}
-use lib.ListN.{length, getD, set, drop}
-use Rattle.bits.specs.Packed.{bits}
+use lib.ListN.{length, getD, drop}
+use Rattle.bits.specs.Numbers.{has, Member, NumberSet, Puts}
 use Rattle.term.specs.Cells.{blankForm}
 use Rattle.term.specs.Machine.{failed, at, run, done}
 use Rattle.term.specs.Steps.{spot, Stands}
 use Rattle.tree.specs.Words.{cellOf, firstOf, nextOf}
-use Rattle.tree.specs.Tally.{marked}
-use Rattle.tree.specs.Promises.{Marked}
 use Rattle.book.specs.Rules.{rule}
 use Rattle.tree.specs.Shape.{Used}
 use Rattle.book.specs.Memory.{view, Passing, rulesIn}
@@ -89,18 +87,19 @@ pub record Threaded (ws : List ℕ) (link : ℕ) : Type 0 where
   pub passing : Passing ws
   pub used : (n : ℕ) → link ≡ suc n → Used (view ws .tree) n
 
--- What a turn asks of the point x that it comes to: its node is in the tree, and a rule that is listed has a number with a mark.
-pub record Tryable (fq fr : Bool) (ws question marks : List ℕ) (x : Point) : Type 0 where
+-- What a turn asks of the point x that it comes to: its node is in the tree, and a rule that is listed has a number that can be marked.
+pub record Tryable (fq fr : Bool) (ws question : List ℕ) (x : Point) : Type 0 where
   pub within : x .link ≤ 4608
-  pub number : ¬ (x .link ≡ 0) → good fq fr (walkAfter fq fr question (wordAt ws x) (x .skip) (x .place)) ≡ true → cellOf (wordAt ws x) < 64 * length marks
+  pub number : ¬ (x .link ≡ 0) → good fq fr (walkAfter fq fr question (wordAt ws x) (x .skip) (x .place)) ≡ true → cellOf (wordAt ws x) < 4096
 
 -- What it asks of the point that it begins with: the machine can stand there, and each point that it may skip to can be tried.
 pub record Stood (fq fr : Bool) (ws question marks : List ℕ) (p : Point) (depth : ℕ) : Type 0 where
   pub threaded : Threaded ws (p .link)
+  pub map : NumberSet marks
   pub stands : Stands question (p .skip) (p .place)
   pub some : 0 < depth
   pub deep : depth ≤ 34
-  pub each : (x : Point) → Skips fq fr ws question p x → Tryable fq fr ws question marks x
+  pub each : (x : Point) → Skips fq fr ws question p x → Tryable fq fr ws question x
 
 -- The point has no node, and goes.
 pub record Ended (marks marks′ : List ℕ) (p : Point) (depth : ℕ) (r : Points) : Type 0 where
@@ -117,8 +116,7 @@ pub record Tried (fq fr : Bool) (ws question : List ℕ) (p : Point) (r : Points
 -- Then its rule is listed; or there is nothing below; or its first child stands above.
 pub record Answered (fq fr : Bool) (ws question marks marks′ : List ℕ) (p : Point) (depth : ℕ) (r : Points) : Type 0 where
   pub tried : Tried fq fr ws question p r true
-  pub long : length marks′ ≡ length marks
-  pub mark : bits marks′ ≡ set (bits marks) (cellOf (wordAt ws p)) 1
+  pub mark : Puts marks marks′ (cellOf (wordAt ws p))
   pub level : r .depth ≡ depth
 
 pub record Passed (fq fr : Bool) (ws question marks marks′ : List ℕ) (p : Point) (depth : ℕ) (r : Points) : Type 0 where
@@ -158,14 +156,15 @@ pub record Answering (fq fr : Bool) (ws question : List ℕ) (k : ℕ) : Type 0 
   pub accepted : done (run fq fr (at 0 (blankForm question)) (blankForm term)) ≡ true
 
 -- The marks afterwards are those before, and the numbers of the rules that answer; no other.
-abbrev pub Searched : Bool → Bool → (ws question marks marks′ : List ℕ) → Type 0
-Searched fq fr ws question marks marks′ = (k : ℕ) → Marked marks′ k ↔ (Marked marks k ⊎ Answering fq fr ws question k)
+pub record Searched (fq fr : Bool) (ws question marks marks′ : List ℕ) : Type 0 where
+  pub map : NumberSet marks′
+  pub marks-are : (k : ℕ) → Member marks′ k ↔ (Member marks k ⊎ Answering fq fr ws question k)
 
 -- The marks are the numbers of the rules that answer.
 abbrev pub Asked : Bool → Bool → (ws question marks : List ℕ) → Type 0
-Asked fq fr ws question marks = (k : ℕ) → Marked marks k ↔ Answering fq fr ws question k
+Asked fq fr ws question marks = (k : ℕ) → Member marks k ↔ Answering fq fr ws question k
 
 -- The marked numbers are written from the front of the cells, n of them, and the cells behind them stay.
 pub record Lists (marks out out′ : List ℕ) (n : ℕ) : Type 0 where
-  pub count : n ≡ length (numbers (marked marks) 4096)
-  pub is : out′ ≡ numbers (marked marks) 4096 ++ drop n out
+  pub count : n ≡ length (numbers (has marks) 4096)
+  pub is : out′ ≡ numbers (has marks) 4096 ++ drop n out

@@ -4,14 +4,14 @@
 // machine takes one step. Where it goes on, the node's first child comes on the list; where it was done before, the node is
 // a rule that answers. Variants, instances, generalisations and unifiables differ in two flags and in nothing else.
 ghost use mathlib.Core.Path.{_≡_};
-ghost use Prim.Native.Nat.{_<_, _≤_};
+ghost use Prim.Native.Nat.{_≤_};
 ghost use lib.ListN.{length};
 ghost use Rattle.term.specs.Steps.{Stands};
 ghost use Rattle.book.specs.Memory.{Passing};
 ghost use Rattle.book.specs.Promises.{IsTerm};
-ghost use Rattle.tree.specs.Tally.{marked};
+ghost use Rattle.bits.specs.Numbers.{NumberSet, has};
 ghost use Rattle.questions.specs.Asking.{numbers};
-ghost use Rattle.questions.specs.Promises.{Turned, Placed, Reach, Sought, Decisive, Skips, moved, Threaded, Stood, Became, IsRoot, Rooted, Searched, Asked, Lists};
+ghost use Rattle.questions.specs.Promises.{Turned, Placed, Reach, Sought, Decisive, Skips, moved, Threaded, Stood, Became, IsRoot, Rooted, Searched, Lists};
 use term::machine;
 
 // A point still to be tried: a link, the subterms of a rule still to skip there, and the place in the question.
@@ -212,7 +212,7 @@ pub fn turn(
     let w = m[72 + x];
     let t = decide(fills_question, fills_rule, question, w, p.skip, p.place);
     if t.listed {
-        bits::mark(marks, tree::cell_of(w) as usize);
+        bits::numbers::put(marks, tree::cell_of(w) as usize);
         return place_points(w, p, t, depth);
     }
     place_points(w, p, t, depth)
@@ -240,7 +240,7 @@ pub fn search(
     marks: &mut [u64],
     list: &mut [Point],
 )
-    requires { ⌜ Passing (now m) × (IsTerm (now question) × ((length (now marks) ≡ 64) × Rooted (now m) (now list))) ⌝ }
+    requires { ⌜ Passing (now m) × (IsTerm (now question) × (NumberSet (now marks) × Rooted (now m) (now list))) ⌝ }
     ensures { λ _. ⌜ Searched «fills_question» «fills_rule» (now (m .entry)) (now (question .entry)) (now (marks .entry)) (now (marks .exit)) ⌝ }
 {
     let mut depth: usize = 1;
@@ -264,7 +264,7 @@ pub fn mark_answers(
 )
     requires { ⌜ Passing (now m) ⌝ }
     requires { ⌜ IsTerm (now question) ⌝ }
-    requires { ⌜ length (now marks) ≡ 64 ⌝ }
+    requires { ⌜ NumberSet (now marks) ⌝ }
     ensures { λ _. ⌜ Searched «fills_question» «fills_rule» (now (m .entry)) (now (question .entry)) (now (marks .entry)) (now (marks .exit)) ⌝ }
 {
     let first = root(m);
@@ -272,29 +272,32 @@ pub fn mark_answers(
     search(m, fills_question, fills_rule, question, marks, &mut list);
 }
 
-// The rules that answer, a mark at each number.
-pub fn ask(m: &[u64], fills_question: bool, fills_rule: bool, question: &[u16]) -> [u64; 64]
-    requires { ⌜ Passing (now m) ⌝ }
-    requires { ⌜ IsTerm (now question) ⌝ }
-    ensures { λ r. ⌜ Asked «fills_question» «fills_rule» (now (m .entry)) (now (question .entry)) r ⌝ }
+// How many numbers are marked.
+pub fn count(marks: &[u64]) -> usize
+    requires { ⌜ NumberSet (now marks) ⌝ }
+    ensures { λ n. ⌜ n ≡ length (numbers (has (now (marks .entry))) 4096) ⌝ }
 {
-    let mut marks = [0u64; 64];
-    mark_answers(m, fills_question, fills_rule, question, &mut marks);
-    marks
+    let mut n: usize = 0;
+    let mut k = bits::numbers::next(marks, 0);
+    while k < 4096 {
+        n += 1;
+        k = bits::numbers::next(marks, k + 1);
+    }
+    n
 }
 
 // Writes the marked numbers, ascending, from the front of `out`, and answers how many they are.
 pub fn list(marks: &[u64], out: &mut [u16]) -> usize
-    requires { ⌜ length (now marks) ≡ 64 ⌝ }
-    requires { ⌜ length (numbers (marked (now marks)) 4096) ≤ length (now out) ⌝ }
+    requires { ⌜ NumberSet (now marks) ⌝ }
+    requires { ⌜ length (numbers (has (now marks)) 4096) ≤ length (now out) ⌝ }
     ensures { λ n. ⌜ Lists (now (marks .entry)) (now (out .entry)) (now (out .exit)) n ⌝ }
 {
     let mut n: usize = 0;
-    let mut k = bits::next_marked(marks, 0);
+    let mut k = bits::numbers::next(marks, 0);
     while k < 4096 {
         out[n] = k as u16;
         n += 1;
-        k = bits::next_marked(marks, k + 1);
+        k = bits::numbers::next(marks, k + 1);
     }
     n
 }

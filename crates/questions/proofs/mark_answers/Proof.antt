@@ -43,6 +43,7 @@ use denote.Triple.Spec.{Meets, tripleOf}
 use denote.Triple.Table.{entered, cited}
 use denote.Triple.Walked.{says, Stays, gave-slice, stay-none-slice, stay-none, walkOf, goes-gave-slice, goes-none-slice, goes-none, Walks, ends-at, walked, walk-meets}
 use denote.Exit.{yes as kept}
+use Rattle.bits.specs.Numbers.{NumberSet}
 use Rattle.book.specs.Memory.{Passing}
 use Rattle.book.specs.Promises.{IsTerm}
 use Rattle.questions.specs.declared.Point.{Point}
@@ -108,7 +109,7 @@ abbrev Search : {M : Type 1} (𝓤 : URA M) (H : Heap 𝓤) (A : Atoms 𝓤) (at
 Search 𝓤 H A at-mem run = tripleOf 𝓤 H A search′.signature (search′.spec 𝓤 H A at-mem run)
 
 module _ {M : Type 1} (𝓤 : URA M) (H : Heap 𝓤) (A : Atoms 𝓤) (W : Given 𝓤 H A) (at-mem : Memory → SProp 𝓤) (run : Routine → Fun 𝓤) (κ₀ κ₁ κ₂ : Lft) (q₀ q₁ q₂ : Share) (m : RefT (List ℕ)) (fq fr : Bool) (qu : RefT (List ℕ)) (bk ok : ℕ) (γk : GName) (ms : List ℕ)
-    (room-m : Room u64 (length (m .now))) (room-q : Room u16 (length (qu .now))) (room-k : Room u64 (length ms)) (passing-m : Passing (m .now)) (whole-q : IsTerm (qu .now)) (long : length ms ≡ 64) where
+    (room-m : Room u64 (length (m .now))) (room-q : Room u16 (length (qu .now))) (room-k : Room u64 (length ms)) (passing-m : Passing (m .now)) (whole-q : IsTerm (qu .now)) (is-set : NumberSet ms) where
   abbrev vm : Val
   vm = sliceVal (m .ptr) (length (m .now))
 
@@ -185,7 +186,7 @@ module _ {M : Type 1} (𝓤 : URA M) (H : Heap 𝓤) (A : Atoms 𝓤) (W : Given
 
       asked : ent 𝓤 (sep 𝓤 (sep 𝓤 (A .lft κ₀ q₀) (sep 𝓤 (A .lft κ₁ q₁) (sep 𝓤 (A .lft κ₂ q₂) (sep 𝓤 (A .lft (α ∷ []) fullShare) (sem 𝓤 H A ftrue))))) (sem 𝓤 H A Sowns))
           (Search 𝓤 H A at-mem run .pre (((κ₀, (κ₁, (κ₂, (α ∷ [], tt)))), (q₀, (q₁, (q₂, (fullShare, tt)))), tt, sargs′, svals′), tt))
-      asked = qed W ((‵ (flft κ₀ q₀) ⊛ ‵ (flft κ₁ q₁) ⊛ ‵ (flft κ₂ q₂) ⊛ ‵ (flft (α ∷ []) fullShare) ⊛ ‵ ftrue) ∷ ‵ Sowns ∷ []) ∵ says ! (passing-m, (whole-q, (long, record { long = length-replicate 35 r; root = is-root }))) $ frame ! $ done !
+      asked = qed W ((‵ (flft κ₀ q₀) ⊛ ‵ (flft κ₁ q₁) ⊛ ‵ (flft κ₂ q₂) ⊛ ‵ (flft (α ∷ []) fullShare) ⊛ ‵ ftrue) ∷ ‵ Sowns ∷ []) ∵ says ! (passing-m, (whole-q, (is-set, record { long = length-replicate 35 r; root = is-root }))) $ frame ! $ done !
 
     abbrev sargs : Point → ℕ → GName → RefT (List ℕ) × (Bool × (Bool × (RefT (List ℕ) × (RefT (List ℕ) × (RefT (List Point) × Unit {0})))))
     sargs r α γ = (m, (fq, (fr, (qu, (xk, (xl r γ, tt))))))
@@ -259,9 +260,9 @@ module _ {M : Type 1} (𝓤 : URA M) (H : Heap 𝓤) (A : Atoms 𝓤) (W : Given
   marks-walks = walked 𝓤 H A marks′.ended stayed (marks′.clauses 𝓤 H A at-mem run) (WpFn 𝓤 H (𝓣 .C) (𝓣 .Λ) code.function)
       (λ κs. (slice-vals, (bool-vals, (bool-vals, (slice-vals, (slice-vals, tt))))))
       (λ κs. (shr-slice-tells (named 0) (κs .0) u64, (bool-tells, (bool-tells, (shr-slice-tells (named 1) (κs .1 .0) u16, (mut-slice-tells (named 2) (κs .1 .1 .0) u64, tt))))))
-      (λ κs qs bounds a g are. needs (Passing (a .0 .now)) (IsTerm (a .1 .1 .1 .0 .now)) (length (a .1 .1 .1 .1 .0 .now) ≡ 64) _ (λ pass whole long.
+      (λ κs qs bounds a g are. needs (Passing (a .0 .now)) (IsTerm (a .1 .1 .1 .0 .now)) (NumberSet (a .1 .1 .1 .1 .0 .now)) _ (λ pass whole is-set.
       walk 𝓤 H A W at-mem run (κs .0) (κs .1 .0) (κs .1 .1 .0) (qs .0) (qs .1 .0) (qs .1 .1 .0) (a .0) (a .1 .0) (a .1 .1 .0) (a .1 .1 .1 .0) (a .1 .1 .1 .1 .0 .ptr .0) (a .1 .1 .1 .1 .0 .ptr .1) (a .1 .1 .1 .1 .0 .name) (a .1 .1 .1 .1 .0 .now)
-      (are .0 .0 .1) (are .1 .1 .1 .0 .0 .1) (are .1 .1 .1 .1 .0 .0 .1) pass whole long 𝓣 known-root known))
+      (are .0 .0 .1) (are .1 .1 .1 .0 .0 .1) (are .1 .1 .1 .1 .0 .0 .1) pass whole is-set 𝓣 known-root known))
 
   marks-meets : Meets 𝓤 H A marks′.signature (WpFn 𝓤 H (𝓣 .C) (𝓣 .Λ) code.function) (marks′.spec 𝓤 H A at-mem run)
   marks-meets =

@@ -48,6 +48,7 @@ use denote.Triple.Spec.{Meets, tripleOf}
 use denote.Triple.Table.{entered, cited}
 use denote.Triple.Walked.{says, needs, Stays, stay-slice, stay-none-slice, stay-none, walkOf, goes-slice, goes-none-slice, goes-none, Walks, ends-at, walked, walk-meets}
 use denote.Exit.{yes as kept}
+use Rattle.bits.specs.Numbers.{NumberSet}
 use Rattle.book.specs.Memory.{Passing}
 use Rattle.book.specs.Promises.{IsTerm}
 use Rattle.questions.specs.declared.Point.{Point}
@@ -344,7 +345,7 @@ module _ {M : Type 1} (𝓤 : URA M) (H : Heap 𝓤) (A : Atoms 𝓤) (W : Given
     turn-at t ns zs d f = go (decLt 0 d)
       where
         ek : length ns ≡ length ms
-        ek = f .1 .1 .map ∙ sym (start .1 .map)
+        ek = f .1 .1 .map .size ∙ sym (start .1 .map .size)
 
         el : length zs ≡ length ys
         el = f .1 .1 .long ∙ sym (start .1 .long)
@@ -414,7 +415,7 @@ module _ {M : Type 1} (𝓤 : URA M) (H : Heap 𝓤) (A : Atoms 𝓤) (W : Given
   search-walks 𝓣 known = walked 𝓤 H A search′.ended stayed (search′.clauses 𝓤 H A at-mem run) (WpFn 𝓤 H (𝓣 .C) (𝓣 .Λ) code.function)
       (λ κs. (slice-vals, (bool-vals, (bool-vals, (slice-vals, (slice-vals, (slice-vals, tt)))))))
       (λ κs. (shr-slice-tells (named 0) (κs .0) u64, (bool-tells, (bool-tells, (shr-slice-tells (named 1) (κs .1 .0) u16, (mut-slice-tells (named 2) (κs .1 .1 .0) u64, (mut-slice-tells (named 3) (κs .1 .1 .1 .0) R, tt)))))))
-      (λ κs qs bounds a g are. needs 𝓤 (Passing (a .0 .now) × (IsTerm (a .1 .1 .1 .0 .now) × ((length (a .1 .1 .1 .1 .0 .now) ≡ 64) × Rooted (a .0 .now) (a .1 .1 .1 .1 .1 .0 .now)))) _ (λ pre.
+      (λ κs qs bounds a g are. needs 𝓤 (Passing (a .0 .now) × (IsTerm (a .1 .1 .1 .0 .now) × (NumberSet (a .1 .1 .1 .1 .0 .now) × Rooted (a .0 .now) (a .1 .1 .1 .1 .1 .0 .now)))) _ (λ pre.
       walk 𝓤 H A W at-mem run (κs .0) (κs .1 .0) (κs .1 .1 .0) (κs .1 .1 .1 .0) (qs .0) (qs .1 .0) (qs .1 .1 .0) (qs .1 .1 .1 .0) (a .0) (a .1 .0) (a .1 .1 .0) (a .1 .1 .1 .0)
       (a .1 .1 .1 .1 .0 .ptr .0) (a .1 .1 .1 .1 .0 .ptr .1) (a .1 .1 .1 .1 .0 .name) (a .1 .1 .1 .1 .0 .now) (a .1 .1 .1 .1 .1 .0 .ptr .0) (a .1 .1 .1 .1 .1 .0 .ptr .1) (a .1 .1 .1 .1 .1 .0 .name) (a .1 .1 .1 .1 .1 .0 .now)
       (are .0 .0 .1) (are .1 .1 .1 .0 .0 .1) (are .1 .1 .1 .1 .0 .0 .1) (are .1 .1 .1 .1 .1 .0 .0 .1)

@@ -1,11 +1,11 @@
 -- Each way out of a turn is one of the four that its promise names, at the point to which it has skipped.
 use borrow.Author.Needs.{needs}
-use mathlib.Core.Path.{_≡_, refl, sym, ap, _∙_, subst}
+use mathlib.Core.Path.{_≡_, refl, sym, _∙_, subst}
 use mathlib.Core.Logic.{inl, inr}
-use Prim.Native.Nat.{ℕ, _*_, _<_}
+use Prim.Native.Nat.{ℕ, _<_}
 use native.Mathlib.Omega.{arith}
-use lib.ListN.{length, set}
-use Rattle.bits.specs.Packed.{bits}
+use lib.ListN.{length}
+use Rattle.bits.specs.Numbers.{Puts}
 use Rattle.questions.specs.declared.Point.{Point}
 use Rattle.questions.specs.Promises.{Skips, Tryable, moved}
 use Rattle.questions.proofs.Trying.{placed-at, lists-it, goes-by}
@@ -19,7 +19,7 @@ module _ (k : tie.After-seek) where
   skips : Skips (k .before .before .before .before .args .fills-question) (k .before .before .before .before .args .fills-rule) (k .before .before .before .before .args .m .now) (k .before .before .before .before .args .question .now) (k .before .before .before .before .args .p) to
   skips = k .seek .ensures
 
-  tryable : Tryable (k .before .before .before .before .args .fills-question) (k .before .before .before .before .args .fills-rule) (k .before .before .before .before .args .m .now) (k .before .before .before .before .args .question .now) (k .before .before .before .before .args .marks .now) to
+  tryable : Tryable (k .before .before .before .before .args .fills-question) (k .before .before .before .before .args .fills-rule) (k .before .before .before .before .args .m .now) (k .before .before .before .before .args .question .now) to
   tryable = k .before .before .before .before .pre .each to skips
 
   size : length (k .before .before .before .before .args .m .now) ≡ 11466
@@ -28,10 +28,10 @@ module _ (k : tie.After-seek) where
 returns : tie.Need-returns
 returns c = record { to = to (c .before); skips = skips (c .before); tries = inl (record { none = c .if1 .taken; same = refl; less = refl }) }
 
-mark-requires : tie.Need-mark-requires
-mark-requires c κs =
+put-requires : tie.Need-put-requires
+put-requires c κs =
     let k = c .before .before .before .before .before .before in
-    subst (λ (x : ℕ). x < 64 * length (k .before .before .before .before .args .marks .now)) (sym (c .cell-of .ensures)) (tryable k .number (c .before .before .before .before .before .if1 .left) (sym (c .before .before .before .decide .ensures .lists-is) ∙ c .before .before .if2 .taken))
+    (k .before .before .before .before .pre .map, subst (λ (x : ℕ). x < 4096) (sym (c .cell-of .ensures)) (tryable k .number (c .before .before .before .before .before .if1 .left) (sym (c .before .before .before .decide .ensures .lists-is) ∙ c .before .before .if2 .taken)))
 
 returns-2 : tie.Need-returns-2
 returns-2 c =
@@ -42,7 +42,7 @@ returns-2 c =
       to = to k;
       skips = skips k;
       tries = inr (inl (lists-it (s .fills-question) (s .fills-rule) (s .m .now) (s .question .now) (s .marks .now) (to k) (s .depth) (c .before .before .before .before .before .before .before .before .before .if1 .left) _ _ _ _ (d .decide .ensures) _ (placed-at _ (s .p) (k .seek .result) _ _ _ _ _ (c .place-points .ensures)) (c .before .before .before .before .before .before .if2 .taken) _
-          (c .before .before .before .mark .kept .0) (c .before .before .before .mark .ensures ∙ ap (λ (x : ℕ). set (bits (s .marks .now)) x 1) (c .before .before .before .before .cell-of .ensures))));
+          (subst (Puts (s .marks .now) (c .before .before .before .put .last .0)) (c .before .before .before .before .cell-of .ensures) (c .before .before .before .put .ensures))));
     }
 
 returns-3 : tie.Need-returns-3
@@ -67,7 +67,7 @@ turn-spec =
     (λ c. let h = tryable (c .before .before) .within in omega (arith, size (c .before .before)))
     (λ c κs. c .before .before .before .before .before .before .pre .stands)
     (λ c κs. search needs)
-    mark-requires
+    put-requires
     (λ c κs. c .before .before .before .before .before .before .before .before .before .before .before .before .before .pre .deep)
     (λ c. search needs)
     returns-2

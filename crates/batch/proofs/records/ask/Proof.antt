@@ -3,54 +3,69 @@ use borrow.Author.Needs.{needs}
 use borrow.Author.Tests.{not-true, not-false, ltb-true, ltb-false}
 use mathlib.Core.Path.{_≡_, refl, sym, ap, _∙_, subst}
 use mathlib.Core.List.{List}
+use mathlib.Core.Bool.{Bool}
 use Prim.Native.Nat.{ℕ, _+_, _*_, _-_, _≤_, _<_}
 use native.Mathlib.Omega.{arith}
 use lib.ListN.{length, length-set}
 use borrow.Rule.Slice.PartMut.{putMid, same-len-mid, mid-len}
 use Rattle.book.specs.Memory.{rulesIn}
-use Rattle.tree.specs.Tally.{marked}
+use Rattle.bits.specs.Numbers.{NumberSet, has}
 use Rattle.questions.specs.Asking.{numbers, answers}
+use Rattle.questions.specs.Promises.{Asked}
+use Rattle.questions.specs.Listing.{asked}
 use Rattle.batch.specs.Commands.{modeOf, asks}
 use Rattle.batch.proofs.Writing.{no-room, cells-then}
 use Rattle.batch.proofs.Doing.{these, as-many, listed-are, never-many}
 use Rattle.batch.proofs.records.ask.Statement.{statement}
 use Rattle.batch.proofs.records.ask.Tie as tie
 
-module _ (r : tie.After-ask) where
+module _ (r : tie.After-mark-answers) where
   abbrev s : tie.Start
-  s = r .before .before .before .before .before .before
+  s = r .before .before .before .before .before .before .before .before .before .before
 
-  marks-long : length (r .ask .result) ≡ 64
-  marks-long = search needs
+  abbrev marks : List ℕ
+  marks = r .mark-answers .last .1 .1 .1 .1 .0
 
-  answers-are : numbers (marked (r .ask .result)) 4096 ≡ answers (modeOf (s .args .kind)) (s .args .question .now) (rulesIn (s .args .book .now))
-  answers-are = these (s .args .book .now) (s .args .question .now) (r .ask .result) (s .args .kind) (r .before .before .fills-question .result) (r .before .fills-rule .result) (r .before .before .fills-question .ensures) (r .before .fills-rule .ensures) (r .ask .ensures)
+  abbrev fq : Bool
+  fq = r .before .before .before .fills-question .result
 
-  few : length (numbers (marked (r .ask .result)) 4096) ≤ 512
-  few = never-many (s .args .book .now) (s .args .question .now) (r .ask .result) (s .args .kind) (r .before .before .fills-question .result) (r .before .fills-rule .result) (r .before .before .fills-question .ensures) (r .before .fills-rule .ensures) (r .ask .ensures) (s .pre .0)
+  abbrev fr : Bool
+  fr = r .before .before .fills-rule .result
+
+  answering : Asked fq fr (s .args .book .now) (s .args .question .now) marks
+  answering = asked fq fr (s .args .book .now) (s .args .question .now) _ marks (r .before .before .before .before .before .empty .ensures .none) (r .mark-answers .ensures)
+
+  map : NumberSet marks
+  map = r .mark-answers .ensures .map
+
+  answers-are : numbers (has marks) 4096 ≡ answers (modeOf (s .args .kind)) (s .args .question .now) (rulesIn (s .args .book .now))
+  answers-are = these (s .args .book .now) (s .args .question .now) marks (s .args .kind) fq fr (r .before .before .before .fills-question .ensures) (r .before .before .fills-rule .ensures) answering
+
+  few : length (numbers (has marks) 4096) ≤ 512
+  few = never-many (s .args .book .now) (s .args .question .now) marks (s .args .kind) fq fr (r .before .before .before .fills-question .ensures) (r .before .before .fills-rule .ensures) answering (s .pre .0)
 
 returns : tie.Need-returns
 returns c =
-    let out = c .before .before .before .before .before .before .before .before .before .args .out .now in
-    let h = ltb-false (length (numbers (marked (c .before .before .before .ask .result)) 4096)) (length out) (sym (c .before .has-room .ensures) ∙ not-true _ (c .if1 .taken)) in
-    no-room (asks (rulesIn (c .before .before .before .before .before .before .before .before .before .args .book .now)) (c .before .before .before .before .before .before .before .before .before .args .kind) (c .before .before .before .before .before .before .before .before .before .args .question .now) .answer) out (subst (λ (n : ℕ). length out ≤ n) (ap length (answers-are (c .before .before .before))) h)
+    let out = s (c .before .before .before .before) .args .out .now in
+    let h = ltb-false (length (numbers (has (marks (c .before .before .before .before))) 4096)) (length out) (sym (c .before .has-room .ensures) ∙ not-true _ (c .if1 .taken)) in
+    no-room (asks (rulesIn (s (c .before .before .before .before) .args .book .now)) (s (c .before .before .before .before) .args .kind) (s (c .before .before .before .before) .args .question .now) .answer) out (subst (λ (n : ℕ). length out ≤ n) (ap length (answers-are (c .before .before .before .before))) h)
 
 -- the list has room
-room : (e : tie.Else1) → length (numbers (marked (e .before .before .before .ask .result)) 4096) < length (e .before .before .before .before .before .before .before .before .before .args .out .now)
-room e = ltb-true (length (numbers (marked (e .before .before .before .ask .result)) 4096)) (length (e .before .before .before .before .before .before .before .before .before .args .out .now)) (sym (e .before .has-room .ensures) ∙ not-false _ (e .if1 .left))
+room : (e : tie.Else1) → length (numbers (has (marks (e .before .before .before .before))) 4096) < length (s (e .before .before .before .before) .args .out .now)
+room e = ltb-true (length (numbers (has (marks (e .before .before .before .before))) 4096)) (length (s (e .before .before .before .before) .args .out .now)) (sym (e .before .has-room .ensures) ∙ not-false _ (e .if1 .left))
 
 list-requires : tie.Need-list-requires
 list-requires c κs =
-    let out = c .before .before .before .before .before .before .before .before .before .before .before .args .out .now in
+    let out = s (c .before .before .before .before .before .before) .args .out .now in
     let h = room (c .before .before) in
-    (marks-long (c .before .before .before .before .before), fits _ _ _ h (mid-len 1 (length out) out (omega arith)))
+    (map (c .before .before .before .before .before .before), fits _ _ _ h (mid-len 1 (length out) out (omega arith)))
   where
     fits : (n k m : ℕ) → n < k → m ≡ k - 1 → n ≤ m
     fits n k m h e = omega arith
 
 module _ (c : tie.After-slice-known2) where
-  abbrev a : tie.After-ask
-  a = c .before .before .before .before .before .before .before .before
+  abbrev a : tie.After-mark-answers
+  a = c .before .before .before .before .before .before .before .before .before
 
   abbrev out : List ℕ
   out = s a .args .out .now
@@ -63,7 +78,7 @@ module _ (c : tie.After-slice-known2) where
   put-long = same-len-mid 1 (length out - 1) out (c .before .before .list .last .1 .0) (c .before .before .list .kept .1 .0)
 
   count-is : c .before .before .list .result ≡ length (answers (modeOf (s a .args .kind)) (s a .args .question .now) (rulesIn (s a .args .book .now)))
-  count-is = as-many (s a .args .book .now) (s a .args .question .now) (a .ask .result) (s a .args .kind) (a .before .before .fills-question .result) (a .before .fills-rule .result) (a .before .before .fills-question .ensures) (a .before .fills-rule .ensures) (a .ask .ensures) _ _ _ (c .before .before .list .ensures)
+  count-is = as-many (s a .args .book .now) (s a .args .question .now) (marks a) (s a .args .kind) (fq a) (fr a) (a .before .before .before .fills-question .ensures) (a .before .before .fills-rule .ensures) (answering a) _ _ _ (c .before .before .list .ensures)
 
   low : c .before .before .list .result ≤ 512
   low = let h = few a in omega (arith, c .before .before .list .ensures .count)
@@ -93,7 +108,7 @@ returns-2 c =
     let n = c .before .before .list .result in
     cells-then (asks (rulesIn (t .args .book .now)) (t .args .kind) (t .args .question .now) .answer) n (first n _ m) (out c) (c .before .before .list .last .1 .0) (length (out c) - 1) (n + 1)
     (subst (λ (k : ℕ). k < length (out c)) (ap length (answers-are (a c))) (room (c .before .before .before .before .before))) refl (ap (λ (j : ℕ). j + 1) m)
-    (listed-are (t .args .book .now) (t .args .question .now) (a c .ask .result) (t .args .kind) (a c .before .before .fills-question .result) (a c .before .fills-rule .result) (a c .before .before .fills-question .ensures) (a c .before .fills-rule .ensures) (a c .ask .ensures) _ _ _ (c .before .before .list .ensures))
+    (listed-are (t .args .book .now) (t .args .question .now) (marks (a c)) (t .args .kind) (fq (a c)) (fr (a c)) (a c .before .before .before .fills-question .ensures) (a c .before .before .fills-rule .ensures) (answering (a c)) _ _ _ (c .before .before .list .ensures))
   where
     first : (n k : ℕ) → n ≡ k → n ≡ 4096 * 0 + k
     first n k e = omega arith
@@ -102,11 +117,14 @@ pub ask-spec : {M : Type 1} → statement M
 ask-spec =
     tie.close
     (tie.spec
+    (λ c. search needs)
     (λ c κs. search needs)
     (λ c κs. search needs)
     (λ c κs. search needs)
     (λ c. search needs)
-    (λ c κs. (marks-long (c .before), few (c .before)))
+    (λ c κs. let s = c .before .before .before .before .before .before .before .before .before in (s .pre .0, (s .pre .1 .1, c .before .before .before .before .empty .ensures .is-set)))
+    (λ c. search needs)
+    (λ c κs. (map (c .before .before), few (c .before .before)))
     returns
     (λ c. search needs)
     sub-list
