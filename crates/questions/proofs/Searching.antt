@@ -18,7 +18,7 @@ use Rattle.tree.specs.Shape.{Shape, child, after, Used, Tree}
 use Rattle.tree.specs.Words.{cellOf, firstOf, nextOf, word}
 use Rattle.tree.specs.Trie.{Trie, node, trie, height, Bounded, FUEL}
 use Rattle.tree.specs.Unfolded.{no-trie, opens, height-root}
-use Rattle.tree.specs.Search.{keep, hits, pending, work, pending-same, work-same, none-gives, none-less, fail-less, child-gives, child-less, height-next, height-child}
+use Rattle.tree.specs.Search.{keep, hits, pending, work, size, pending-same, work-same, none-gives, none-less, fail-less, child-gives, child-less, height-next, height-child}
 use Rattle.book.specs.Memory.{view, term, Passing, rulesIn}
 use Rattle.book.specs.Holding.{at-holds, holds-at}
 use Rattle.book.specs.Promises.{IsTerm}
@@ -55,10 +55,25 @@ module _ (l : List Point) (k : ℕ) (p : Point) (q : List ℕ) where
   unfolding walkAt
   other-walk j d = ap (λ (x : Point). walkBefore q (x .skip) (x .place)) (getD-set-other l k j p _ d)
 
--- the machine's numbers at a point are small
-pub record Small (q : List ℕ) (l : List Point) (j : ℕ) : Type 0 where
+pub link-here : (l : List Point) (j : ℕ) → linkAt l j ≡ getD l j (record { link = 0; skip = 0; place = 0 }) .link
+unfolding linkAt
+link-here l j = refl
+
+-- the machine's numbers at a point are small: each level below can add seven subterms to skip
+pub record Small (ws q : List ℕ) (l : List Point) (j : ℕ) : Type 0 where
   pub inside : getD l j (record { link = 0; skip = 0; place = 0 }) .place ≤ length q
-  pub few : getD l j (record { link = 0; skip = 0; place = 0 }) .skip ≤ 7 * j
+  pub few : getD l j (record { link = 0; skip = 0; place = 0 }) .skip + 7 * height (trie (view ws .tree) (linkAt l j)) ≤ 231
+
+module _ (ws : List ℕ) (l : List Point) (k j : ℕ) (p : Point) (q : List ℕ) where
+  kept-few : ¬ (j ≡ k) → getD l j (record { link = 0; skip = 0; place = 0 }) .skip + 7 * height (trie (view ws .tree) (linkAt l j)) ≤ 231
+      → getD (set l k p) j (record { link = 0; skip = 0; place = 0 }) .skip + 7 * height (trie (view ws .tree) (linkAt (set l k p) j)) ≤ 231
+  kept-few d f = subst (λ (x : Point). x .skip + 7 * height (trie (view ws .tree) (linkAt (set l k p) j)) ≤ 231) (sym (getD-set-other l k j p _ d))
+      (subst (λ (x : ℕ). getD l j (record { link = 0; skip = 0; place = 0 }) .skip + 7 * height (trie (view ws .tree) x) ≤ 231) (sym (other-link l k p q j d)) f)
+
+set-few : (ws : List ℕ) (l : List Point) (k : ℕ) (p : Point) (q : List ℕ) → k < length l → p .skip + 7 * height (trie (view ws .tree) (p .link)) ≤ 231
+    → getD (set l k p) k (record { link = 0; skip = 0; place = 0 }) .skip + 7 * height (trie (view ws .tree) (linkAt (set l k p) k)) ≤ 231
+set-few ws l k p q h f = subst (λ (x : Point). x .skip + 7 * height (trie (view ws .tree) (linkAt (set l k p) k)) ≤ 231) (sym (getD-set-same l k p _ h))
+    (subst (λ (x : ℕ). p .skip + 7 * height (trie (view ws .tree) x) ≤ 231) (sym (set-link l k p q h)) f)
 
 -- the nodes still to be tried
 abbrev pub left : Bool → Bool → List ℕ → List Point → ℕ → ℕ
@@ -98,7 +113,7 @@ module _ (fq fr : Bool) (ws q : List ℕ) (b : Book ws q) where
     pub deep : d ≤ 34
     pub long : length l ≡ 35
     pub map : NumberSet marks
-    pub small : (j : ℕ) → j < d → Small q l j
+    pub small : (j : ℕ) → j < d → Small ws q l j
     pub used : (j : ℕ) → j < d → (n : ℕ) → linkAt l j ≡ suc n → Used (view ws .tree) n
     pub high : (j : ℕ) → j < d → j + height (trie (view ws .tree) (linkAt l j)) ≤ 33
     pub sofar : List ℕ
@@ -112,7 +127,7 @@ module _ (fq fr : Bool) (ws q : List ℕ) (b : Book ws q) where
     deep = omega arith;
     long = long;
     map = lm;
-    small = λ j h. subst (Small q l) (zeroth j h) (record { inside = omega (arith, ep); few = omega (arith, es) });
+    small = λ j h. subst (Small ws q l) (zeroth j h) (record { inside = omega (arith, ep); few = subst (λ (x : ℕ). getD l 0 (record { link = 0; skip = 0; place = 0 }) .skip + 7 * height (trie (view ws .tree) x) ≤ 231) (sym e) (let t = height-root (view ws .tree) tree bound in omega (arith, es)) });
     used = λ j h n f. tree .goes (child 0) tt (sym e ∙ ap (linkAt l) (zeroth j h) ∙ f) .used;
     high = λ j h. subst (λ (i : ℕ). i + height (trie (view ws .tree) (linkAt l i)) ≤ 33) (zeroth j h) (subst (λ (x : ℕ). 0 + height (trie (view ws .tree) x) ≤ 33) (sym e) (let t = height-root (view ws .tree) tree bound in omega arith));
     sofar = [];
@@ -139,7 +154,7 @@ module _ (fq fr : Bool) (ws q : List ℕ) (b : Book ws q) where
       long = length-set l j p ∙ s .long;
       map = s .map;
       small = λ i h. let x = s .small i h in
-          record { inside = subst (λ (p : Point). p .place ≤ length q) (sym (getD-set-other l j i p _ (λ e. omega arith))) (x .inside); few = subst (λ (p : Point). p .skip ≤ 7 * i) (sym (getD-set-other l j i p _ (λ e. omega arith))) (x .few) };
+          record { inside = subst (λ (p : Point). p .place ≤ length q) (sym (getD-set-other l j i p _ (λ e. omega arith))) (x .inside); few = kept-few ws l j i p q (λ e. omega arith) (x .few) };
       used = λ i h n f. s .used i h n (sym (other-link l j p q i (λ e. omega arith)) ∙ f);
       high = λ i h. subst (λ (x : ℕ). i + height (trie (view ws .tree) x) ≤ 33) (sym (other-link l j p q i (λ e. omega arith))) (s .high i h);
       sofar = s .sofar;
@@ -223,19 +238,19 @@ module _ (fq fr : Bool) (ws q : List ℕ) (b : Book ws q) where
         opened = ap (trie (view ws .tree)) e ∙ opens (view ws .tree) tree bound n u
 
         -- what the point at k says after its sibling took its place
-        small₁ : (j : ℕ) → j < suc k → Small q l₁ j
+        small₁ : (j : ℕ) → j < suc k → Small ws q l₁ j
         small₁ j h = go (ℕ-discrete j k)
           where
-            go : Dec (j ≡ k) → Small q (set l k beside) j
+            go : Dec (j ≡ k) → Small ws q (set l k beside) j
             go (yes d) =
                 let x = s .small k (omega arith) in
-                subst (Small q (set l k beside)) (sym d) (record {
+                subst (Small ws q (set l k beside)) (sym d) (record {
                   inside = subst (λ (p : Point). p .place ≤ length q) (sym (getD-set-same l k beside _ here)) (subst (λ (y : ℕ). y ≤ length q) (sym ep) (x .inside));
-                  few = subst (λ (p : Point). p .skip ≤ 7 * k) (sym (getD-set-same l k beside _ here)) (subst (λ (y : ℕ). y ≤ 7 * k) (sym es) (x .few));
+                  few = set-few ws l k beside q here (subst (λ (y : ℕ). beside .skip + 7 * height (trie (view ws .tree) y) ≤ 231) (sym (eb ∙ sym next-is)) (let o = ap height opened in let f = x .few in omega (arith, es)));
                 })
             go (no d) =
                 let x = s .small j h in
-                record { inside = subst (λ (p : Point). p .place ≤ length q) (sym (getD-set-other l k j beside _ d)) (x .inside); few = subst (λ (p : Point). p .skip ≤ 7 * j) (sym (getD-set-other l k j beside _ d)) (x .few) }
+                record { inside = subst (λ (p : Point). p .place ≤ length q) (sym (getD-set-other l k j beside _ d)) (x .inside); few = kept-few ws l k j beside q d (x .few) }
 
         used₁ : (j : ℕ) → j < suc k → (y : ℕ) → linkAt l₁ j ≡ suc y → Used (view ws .tree) y
         used₁ j h y f = go (ℕ-discrete j k)
@@ -403,14 +418,14 @@ module _ (fq fr : Bool) (ws q : List ℕ) (b : Book ws q) where
             marks-are = s .marks-are;
           }
             where
-              small₂ : (j : ℕ) → j < suc (suc k) → Dec (j ≡ suc k) → Small q (set l₁ (suc k) below) j
-              small₂ j h (yes d) = subst (Small q (set l₁ (suc k) below)) (sym d) (record {
+              small₂ : (j : ℕ) → j < suc (suc k) → Dec (j ≡ suc k) → Small ws q (set l₁ (suc k) below) j
+              small₂ j h (yes d) = subst (Small ws q (set l₁ (suc k) below)) (sym d) (record {
                 inside = subst (λ (p : Point). p .place ≤ length q) (sym (getD-set-same l₁ (suc k) below _ there)) (subst (λ (y : ℕ). y ≤ length q) (sym eq) (g .inside));
-                few = subst (λ (p : Point). p .skip ≤ 7 * suc k) (sym (getD-set-same l₁ (suc k) below _ there)) (let a = g .few in let c = s .small k (omega arith) .few in omega arith);
+                few = set-few ws l₁ (suc k) below q there (subst (λ (y : ℕ). below .skip + 7 * height (trie (view ws .tree) y) ≤ 231) (sym link-down) (let o = ap height opened in let a = g .few in let c = s .small k (omega arith) .few in omega (arith, ek)));
               })
               small₂ j h (no d) =
                   let x = small₁ j (omega arith) in
-                  record { inside = subst (λ (p : Point). p .place ≤ length q) (sym (getD-set-other l₁ (suc k) j below _ d)) (x .inside); few = subst (λ (p : Point). p .skip ≤ 7 * j) (sym (getD-set-other l₁ (suc k) j below _ d)) (x .few) }
+                  record { inside = subst (λ (p : Point). p .place ≤ length q) (sym (getD-set-other l₁ (suc k) j below _ d)) (x .inside); few = kept-few ws l₁ (suc k) j below q d (x .few) }
 
               used₂ : (j : ℕ) → j < suc (suc k) → (y : ℕ) → linkAt (set l₁ (suc k) below) j ≡ suc y → Dec (j ≡ suc k) → Used (view ws .tree) y
               used₂ j h y f (yes d) = tree .goes (child (suc n)) u (sym link₂ ∙ ap (linkAt (set l₁ (suc k) below)) (sym d) ∙ f) .used
@@ -421,6 +436,79 @@ module _ (fq fr : Bool) (ws q : List ℕ) (b : Book ws q) where
                   subst (λ (z : ℕ). z + height (trie (view ws .tree) (linkAt (set l₁ (suc k) below) z)) ≤ 33) (sym d)
                   (subst (λ (x : ℕ). suc k + height (trie (view ws .tree) x) ≤ 33) (sym link₂) (height-child (next fq fr) (good fq fr) (view ws .tree) tree bound k (linkAt l) (walkAt q l) n e u (s .high k (omega arith))))
               high₂ j h (no d) = subst (λ (x : ℕ). j + height (trie (view ws .tree) x) ≤ 33) (sym (kept₂ j (omega arith))) (high₁ j (omega arith))
+
+  -- ---- a point without a node below the last: the last takes its place
+
+  module _ (marks₀ marks : List ℕ) (l : List Point) (k : ℕ) (s : Searching marks₀ marks l (suc (suc k))) (e : linkAt l k ≡ 0) where
+    abbrev last : Point
+    last = getD l (suc k) (record { link = 0; skip = 0; place = 0 })
+
+    abbrev pub closed : List Point
+    closed = set l k last
+
+    first-in : k < length l
+    first-in = let d = s .deep in omega (arith, s .long)
+
+    link-there : linkAt closed k ≡ linkAt l (suc k)
+    unfolding linkAt
+    link-there = set-link l k last q first-in
+
+    walk-there : walkAt q closed k ≡ walkAt q l (suc k)
+    unfolding walkAt
+    walk-there = set-walk l k last q first-in
+
+    same-link : (j : ℕ) → j < k → linkAt closed j ≡ linkAt l j
+    same-link j h = other-link l k last q j (λ d. omega arith)
+
+    same-walk : (j : ℕ) → j < k → walkAt q closed j ≡ walkAt q l j
+    same-walk j h = other-walk l k last q j (λ d. omega arith)
+
+    pub closes : Searching marks₀ marks closed (suc k)
+    closes = record {
+      deep = (let d = s .deep in omega arith);
+      long = length-set l k last ∙ s .long;
+      map = s .map;
+      small = λ j h. small₁ j h (ℕ-discrete j k);
+      used = λ j h y f. used₁ j h y f (ℕ-discrete j k);
+      high = λ j h. high₁ j h (ℕ-discrete j k);
+      sofar = s .sofar;
+      total =
+          ap (λ (x : List ℕ). s .sofar ++ x) (ap₂ _++_ (ap₂ (λ (x : Walk) (y : ℕ). hits (next fq fr) (good fq fr) (view ws .tree) x (trie (view ws .tree) y)) walk-there link-there)
+          (pending-same (next fq fr) (good fq fr) (view ws .tree) k same-link same-walk ∙ sym (none-gives (next fq fr) (good fq fr) (view ws .tree) tree bound k (linkAt l) (walkAt q l) e)))
+          ∙ s .total;
+      marks-are = s .marks-are;
+    }
+      where
+        small₁ : (j : ℕ) → j < suc k → Dec (j ≡ k) → Small ws q (set l k (getD l (suc k) (record { link = 0; skip = 0; place = 0 }))) j
+        small₁ j h (yes d) =
+            let x = s .small (suc k) (omega arith) in
+            subst (Small ws q (set l k (getD l (suc k) (record { link = 0; skip = 0; place = 0 })))) (sym d) (record {
+              inside = subst (λ (p : Point). p .place ≤ length q) (sym (getD-set-same l k (getD l (suc k) (record { link = 0; skip = 0; place = 0 })) _ first-in)) (x .inside);
+              few = set-few ws l k (getD l (suc k) (record { link = 0; skip = 0; place = 0 })) q first-in (few-here (x .few));
+            })
+          where
+            few-here : getD l (suc k) (record { link = 0; skip = 0; place = 0 }) .skip + 7 * height (trie (view ws .tree) (linkAt l (suc k))) ≤ 231 → getD l (suc k) (record { link = 0; skip = 0; place = 0 }) .skip + 7 * height (trie (view ws .tree) (getD l (suc k) (record { link = 0; skip = 0; place = 0 }) .link)) ≤ 231
+            few-here f = subst (λ (x : ℕ). getD l (suc k) (record { link = 0; skip = 0; place = 0 }) .skip + 7 * height (trie (view ws .tree) x) ≤ 231) (link-here l (suc k)) f
+        small₁ j h (no d) =
+            let x = s .small j (omega arith) in
+            record { inside = subst (λ (p : Point). p .place ≤ length q) (sym (getD-set-other l k j (getD l (suc k) (record { link = 0; skip = 0; place = 0 })) _ d)) (x .inside); few = kept-few ws l k j (getD l (suc k) (record { link = 0; skip = 0; place = 0 })) q d (x .few) }
+
+        used₁ : (j : ℕ) → j < suc k → (y : ℕ) → linkAt (set l k (getD l (suc k) (record { link = 0; skip = 0; place = 0 }))) j ≡ suc y → Dec (j ≡ k) → Used (view ws .tree) y
+        used₁ j h y f (yes d) = s .used (suc k) (omega arith) y (sym link-there ∙ ap (linkAt (set l k (getD l (suc k) (record { link = 0; skip = 0; place = 0 })))) (sym d) ∙ f)
+        used₁ j h y f (no d) = s .used j (omega arith) y (sym (same-link j (omega arith)) ∙ f)
+
+        high₁ : (j : ℕ) → j < suc k → Dec (j ≡ k) → j + height (trie (view ws .tree) (linkAt (set l k (getD l (suc k) (record { link = 0; skip = 0; place = 0 }))) j)) ≤ 33
+        high₁ j h (yes d) =
+            subst (λ (z : ℕ). z + height (trie (view ws .tree) (linkAt (set l k (getD l (suc k) (record { link = 0; skip = 0; place = 0 }))) z)) ≤ 33) (sym d)
+            (subst (λ (x : ℕ). k + height (trie (view ws .tree) x) ≤ 33) (sym link-there) (let f = s .high (suc k) (omega arith) in omega arith))
+        high₁ j h (no d) = subst (λ (x : ℕ). j + height (trie (view ws .tree) x) ≤ 33) (sym (same-link j (omega arith))) (s .high j (omega arith))
+
+    pub closes-less : left fq fr ws closed (suc k) < left fq fr ws l (suc (suc k))
+    closes-less =
+        let a = none-less (next fq fr) (good fq fr) (view ws .tree) tree bound k (linkAt l) (walkAt q l) e in
+        let c = ap (λ (x : ℕ). size (trie (view ws .tree) x)) link-there in
+        let d = work-same (next fq fr) (good fq fr) (view ws .tree) k same-link in
+        omega arith
 
   -- ---- the end
 

@@ -6,8 +6,8 @@ use mathlib.Core.Bool.{Bool, true, false}
 use Prim.Native.Nat.{ℕ, zero, suc, _+_, _-_, _*_, _≤_, _<_}
 use native.Mathlib.Omega.{arith}
 use native.Mathlib.Decide.{ℕ-discrete}
-use lib.ListN.{length, getD, set}
-use lib.Seq.{getD-take, getD-set-same}
+use lib.ListN.{length, getD, set, length-set}
+use lib.Seq.{getD-take, getD-set-same, getD-set-other}
 use Rattle.bits.specs.Numbers.{NumberSet, Puts}
 use Rattle.term.specs.Machine.{failed}
 use Rattle.term.specs.Steps.{Stands}
@@ -19,9 +19,9 @@ use Rattle.book.specs.Promises.{IsTerm}
 use Rattle.questions.specs.declared.Point.{Point}
 use Rattle.questions.specs.Walk.{Walk, reading, listed, good}
 use Rattle.questions.specs.declared.Points.{Points}
-use Rattle.questions.specs.Promises.{walkAfter, Turned, Searched, Rooted, wordAt, besideOf, Skips, stay, skip-on, Tryable, Stood, Ended, Answered, Passed, Deeper, Became}
+use Rattle.questions.specs.Promises.{walkAfter, Turned, Searched, Rooted, wordAt, besideOf, Skips, stay, skip-on, Tryable, Stood, Ended, Answered, Passed, Deeper, Closed, stays, gone, moves, Became}
 use Rattle.questions.proofs.Trying.{none-below}
-use Rattle.questions.proofs.Searching.{Book, Searching, left, linkAt, starts, aside, aside-left, drops, drops-less, stands, node-low, passes-by, marks-it, number-low, beside-less, goes-down, down-less, searched}
+use Rattle.questions.proofs.Searching.{Book, Searching, left, linkAt, link-here, starts, aside, aside-left, drops, drops-less, stands, node-low, passes-by, marks-it, number-low, beside-less, goes-down, down-less, closes, closes-less, searched}
 
 -- the point at a level
 abbrev pub pointAt : List Point → ℕ → Point
@@ -256,6 +256,76 @@ module _ (fq fr : Bool) (ws q marks₀ marks : List ℕ) (l : List Point) (depth
     tried-here (inr (inr (inl e))) = of-passed e
     tried-here (inr (inr (inr e))) = of-deeper e
 
+-- ---- a point without a node does not stay
+
+set-swap : (l : List Point) (k j : ℕ) (p r : Point) → ¬ (k ≡ j) → set (set l k p) j r ≡ set (set l j r) k p
+set-swap [] k j p r d = refl
+set-swap (x ∷ l) zero zero p r d = absurd (d refl)
+set-swap (x ∷ l) zero (suc j) p r d = refl
+set-swap (x ∷ l) (suc k) zero p r d = refl
+set-swap (x ∷ l) (suc k) (suc j) p r d = ap (λ (z : List Point). x ∷ z) (set-swap l k j p r (λ e. d (ap suc e)))
+
+-- two places, each set twice
+set-again : (l : List Point) (k j : ℕ) (p r p′ r′ : Point) → ¬ (k ≡ j) → set (set (set (set l k p) j r) k p′) j r′ ≡ set (set l k p′) j r′
+set-again l k j p r p′ r′ d =
+    ap (λ (z : List Point). set (set z k p′) j r′) (set-swap l k j p r d)
+    ∙ ap (λ (z : List Point). set z j r′) (set-twice (set l j r) k p p′ ∙ sym (set-swap l k j p′ r d))
+    ∙ set-twice (set l k p′) j r r′
+
+module _ (fq fr : Bool) (ws q marks₀ : List ℕ) (l : List Point) (depth : ℕ) (long : depth < length l) (h : 0 < depth) (marks′ : List ℕ) (plain r : Points) where
+  abbrev lay : Points → List Point
+  lay x = set (set l (depth - 1) (x .beside)) depth (x .below)
+
+  abbrev Next : List Point → ℕ → Type 0
+  Next = Again fq fr ws q marks₀ l depth marks′
+
+  apart : ¬ (depth - 1 ≡ depth)
+  apart e = omega arith
+
+  reset : set (set (lay plain) (depth - 1) (r .beside)) depth (r .below) ≡ lay r
+  reset = set-again l (depth - 1) depth (plain .beside) (plain .below) (r .beside) (r .below) apart
+
+  no-node : plain .beside .link ≡ 0 → pointAt (lay plain) (depth - 1) .link ≡ 0
+  no-node z = ap (λ (p : Point). p .link) (getD-set-other (set l (depth - 1) (plain .beside)) depth (depth - 1) (plain .below) _ apart ∙ at-set l (depth - 1) (plain .beside) (omega arith)) ∙ z
+
+  past-it : {l′ : List Point} {d j : ℕ} (p : Point) → d ≤ j → Next l′ d → Next (set l′ j p) d
+  past-it {l′} {d} {j} p b a = record {
+    again = (a .again .0, aside fq fr ws q (a .again .0) l′ d j p b (a .again .1));
+    fewer = subst (λ (x : ℕ). x < left fq fr ws l depth) (sym (aside-left fq fr ws q (a .again .0) l′ d j p b)) (a .fewer);
+  }
+
+  goes-away : plain .beside .link ≡ 0 → Next (lay plain) depth → Next (lay r) (depth - 1)
+  goes-away z a = subst (λ (x : List Point). Next x (depth - 1)) reset (past-it (r .below) (omega arith) (past-it (r .beside) (omega arith) (record {
+    again = drop fq fr ws q marks₀ marks′ (lay plain) depth (a .again) h (no-node z);
+    fewer = (let x = drop-less fq fr ws q marks₀ marks′ (lay plain) depth (a .again) h (no-node z) in let y = a .fewer in omega arith);
+  })))
+
+  comes-down : plain .beside .link ≡ 0 → r .beside ≡ plain .below → Next (lay plain) (depth + 1) → Next (lay r) depth
+  comes-down z e a = subst (λ (x : List Point). Next x depth) reset (past-it (r .below) (omega arith) (subst (λ (p : Point). Next (set (lay plain) (depth - 1) p) depth) (last-is ∙ sym e) (subst (Next (set (lay plain) (depth - 1) (pointAt (lay plain) (suc (depth - 1))))) one (record {
+    again = (a .again .0, closes fq fr ws q (a .again .0) marks₀ marks′ (lay plain) (depth - 1) here there);
+    fewer = (let x = closes-less fq fr ws q (a .again .0) marks₀ marks′ (lay plain) (depth - 1) here there in let y = a .fewer in let v = ap (left fq fr ws (lay plain)) two in omega arith);
+  }))))
+    where
+      one : suc (depth - 1) ≡ depth
+      one = omega arith
+
+      two : suc (suc (depth - 1)) ≡ depth + 1
+      two = omega arith
+
+      here : Searching fq fr ws q (a .again .0) marks₀ marks′ (lay plain) (suc (suc (depth - 1)))
+      here = subst (Searching fq fr ws q (a .again .0) marks₀ marks′ (lay plain)) (sym two) (a .again .1)
+
+      there : linkAt (lay plain) (depth - 1) ≡ 0
+      there = link-here (lay plain) (depth - 1) ∙ no-node z
+
+      last-is : pointAt (lay plain) (suc (depth - 1)) ≡ plain .below
+      last-is = ap (pointAt (lay plain)) one ∙ at-set (set l (depth - 1) (plain .beside)) depth (plain .below) (omega (arith, length-set l (depth - 1) (plain .beside)))
+
+  pub closing : Next (lay plain) (plain .depth) → Closed depth plain r → Next (lay r) (r .depth)
+  closing a (stays e) = subst (λ (x : Points). Next (lay x) (x .depth)) (sym e) a
+  closing a (gone z ed er) = subst (Next (lay r)) (sym er) (goes-away z (subst (Next (lay plain)) ed a))
+  closing a (moves z ed eb er) = subst (Next (lay r)) (sym er) (comes-down z eb (subst (Next (lay plain)) ed a))
+
 -- ---- a turn, at the point to which it skips
 
 module _ (fq fr : Bool) (ws q marks₀ marks : List ℕ) (l : List Point) (depth : ℕ) (i : Loop fq fr ws q marks₀ marks l depth) (h : 0 < depth) where
@@ -278,7 +348,8 @@ module _ (fq fr : Bool) (ws q marks₀ marks : List ℕ) (l : List Point) (depth
   pub turned : (marks′ : List ℕ) (r : Points) → Became fq fr ws q marks marks′ (pointAt l (depth - 1)) depth r → Again fq fr ws q marks₀ l depth marks′ (set (set l (depth - 1) (r .beside)) depth (r .below)) (r .depth)
   turned marks′ r b =
       let s = skipped fq fr ws q marks₀ marks l depth i h (b .skips) in
-      let t = subst (λ (p : Point). Ended marks marks′ p depth r ⊎ (Answered fq fr ws q marks marks′ p depth r ⊎ (Passed fq fr ws q marks marks′ p depth r ⊎ Deeper fq fr ws q marks marks′ p depth r))) (sym (at-skipped (b .to))) (b .tries) in
-      let a = tried-here fq fr ws q marks₀ marks (set l (depth - 1) (b .to)) depth (s .loop) h marks′ r t in
-      subst (λ (z : List Point). Again fq fr ws q marks₀ l depth marks′ (set z depth (r .below)) (r .depth)) (set-twice l (depth - 1) (b .to) (r .beside))
-      (record { again = a .again; fewer = (let x = a .fewer in let y = s .less in omega arith) })
+      let t = subst (λ (p : Point). Ended marks marks′ p depth (b .plain) ⊎ (Answered fq fr ws q marks marks′ p depth (b .plain) ⊎ (Passed fq fr ws q marks marks′ p depth (b .plain) ⊎ Deeper fq fr ws q marks marks′ p depth (b .plain)))) (sym (at-skipped (b .to))) (b .tries) in
+      let a = tried-here fq fr ws q marks₀ marks (set l (depth - 1) (b .to)) depth (s .loop) h marks′ (b .plain) t in
+      closing fq fr ws q marks₀ l depth (let d = i .1 .deep in omega (arith, i .1 .long)) h marks′ (b .plain) r
+      (subst (λ (z : List Point). Again fq fr ws q marks₀ l depth marks′ (set z depth (b .plain .below)) (b .plain .depth)) (set-twice l (depth - 1) (b .to) (b .plain .beside))
+      (record { again = a .again; fewer = (let x = a .fewer in let y = s .less in omega arith) })) (b .closed)

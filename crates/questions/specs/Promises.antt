@@ -45,6 +45,18 @@ pub record Placed (w : ℕ) (p : Point) (down skip′ place′ depth : ℕ) (r :
   pub level : down ≡ 0 → r .depth ≡ depth
   pub more : ¬ (down ≡ 0) → r .depth ≡ depth + 1
 
+-- A point without a node need not stand. The points r are those of `plain`, or those without the one beside, which has none: the one below, where it
+-- stands, takes its place.
+pub data Closed (depth : ℕ) (plain r : Points) : Type 0 where
+  stays : r ≡ plain → Closed depth plain r
+  gone : plain .beside .link ≡ 0 → plain .depth ≡ depth → r .depth ≡ depth - 1 → Closed depth plain r
+  moves : plain .beside .link ≡ 0 → plain .depth ≡ depth + 1 → r .beside ≡ plain .below → r .depth ≡ depth → Closed depth plain r
+
+pub record Stacked (w : ℕ) (p : Point) (down skip′ place′ depth : ℕ) (r : Points) : Type 0 where
+  pub plain : Points
+  pub placed : Placed w p down skip′ place′ depth plain
+  pub closed : Closed depth plain r
+
 -- the word of the node that a point's link names
 abbrev pub wordAt : List ℕ → Point → ℕ
 wordAt ws p = getD ws (72 + p .link) 0
@@ -131,11 +143,14 @@ pub record Deeper (fq fr : Bool) (ws question marks marks′ : List ℕ) (p : Po
   pub goes : ¬ (r .below .link ≡ 0)
   pub more : r .depth ≡ depth + 1
 
--- What a turn at the point p makes of the marks and the list: siblings at which the machine fails are skipped, and the next is tried.
+-- What a turn at the point p makes of the marks and the list: siblings at which the machine fails are skipped, the next is tried, and no point
+-- without a node is left.
 pub record Became (fq fr : Bool) (ws question marks marks′ : List ℕ) (p : Point) (depth : ℕ) (r : Points) : Type 0 where
   pub to : Point
   pub skips : Skips fq fr ws question p to
-  pub tries : Ended marks marks′ to depth r ⊎ (Answered fq fr ws question marks marks′ to depth r ⊎ (Passed fq fr ws question marks marks′ to depth r ⊎ Deeper fq fr ws question marks marks′ to depth r))
+  pub plain : Points
+  pub tries : Ended marks marks′ to depth plain ⊎ (Answered fq fr ws question marks marks′ to depth plain ⊎ (Passed fq fr ws question marks marks′ to depth plain ⊎ Deeper fq fr ws question marks marks′ to depth plain))
+  pub closed : Closed depth plain r
 
 -- The point that the search begins with: the tree's first node, and the machine before all cells.
 pub record IsRoot (ws : List ℕ) (p : Point) : Type 0 where

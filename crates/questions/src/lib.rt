@@ -4,14 +4,14 @@
 // machine takes one step. Where it goes on, the node's first child comes on the list; where it was done before, the node is
 // a rule that answers. Variants, instances, generalisations and unifiables differ in two flags and in nothing else.
 ghost use mathlib.Core.Path.{_≡_};
-ghost use Prim.Native.Nat.{_≤_};
+ghost use Prim.Native.Nat.{_<_, _≤_};
 ghost use lib.ListN.{length};
 ghost use Rattle.term.specs.Steps.{Stands};
 ghost use Rattle.book.specs.Memory.{Passing};
 ghost use Rattle.book.specs.Promises.{IsTerm};
 ghost use Rattle.bits.specs.Numbers.{NumberSet, has};
 ghost use Rattle.questions.specs.Asking.{numbers};
-ghost use Rattle.questions.specs.Promises.{Turned, Placed, Reach, Sought, Decisive, Skips, moved, Threaded, Stood, Became, IsRoot, Rooted, Searched, Lists};
+ghost use Rattle.questions.specs.Promises.{Turned, Stacked, Reach, Sought, Decisive, Skips, moved, Threaded, Stood, Became, IsRoot, Rooted, Searched, Lists};
 use term::machine;
 
 // A point still to be tried: a link, the subterms of a rule still to skip there, and the place in the question.
@@ -82,13 +82,15 @@ pub struct Points {
 }
 
 // The points after the node with the word w was tried at the point p, the last of `depth`, and t was decided: its sibling
-// takes its place, and its first child stands above where there is one to try.
+// takes its place, and its first child stands above, each where there is one to try. Without a sibling the child takes the place.
 pub fn place_points(w: u64, p: Point, t: Decision, depth: usize) -> Points
+    requires { ⌜ 0 < depth ⌝ }
     requires { ⌜ depth ≤ 34 ⌝ }
-    ensures { λ r. ⌜ Placed w p (t .down) (t .skip) (t .place) depth r ⌝ }
+    ensures { λ r. ⌜ Stacked w p (t .down) (t .skip) (t .place) depth r ⌝ }
 {
+    let next = tree::next_of(w) as usize;
     let beside = Point {
-        link: tree::next_of(w) as usize,
+        link: next,
         skip: p.skip,
         place: p.place,
     };
@@ -98,6 +100,20 @@ pub fn place_points(w: u64, p: Point, t: Decision, depth: usize) -> Points
         skip: t.skip,
         place: t.place,
     };
+    if next == 0 {
+        if down == 0 {
+            return Points {
+                beside,
+                below,
+                depth: depth - 1,
+            };
+        }
+        return Points {
+            beside: below,
+            below,
+            depth,
+        };
+    }
     if down == 0 {
         return Points {
             beside,

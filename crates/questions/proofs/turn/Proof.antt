@@ -7,7 +7,7 @@ use native.Mathlib.Omega.{arith}
 use lib.ListN.{length}
 use Rattle.bits.specs.Numbers.{Puts}
 use Rattle.questions.specs.declared.Point.{Point}
-use Rattle.questions.specs.Promises.{Skips, Tryable, moved}
+use Rattle.questions.specs.Promises.{Skips, Tryable, moved, stays}
 use Rattle.questions.proofs.Trying.{placed-at, lists-it, goes-by}
 use Rattle.questions.proofs.turn.Statement.{statement}
 use Rattle.questions.proofs.turn.Tie as tie
@@ -26,7 +26,7 @@ module _ (k : tie.After-seek) where
   size = k .before .before .before .before .pre .threaded .passing .size
 
 returns : tie.Need-returns
-returns c = record { to = to (c .before); skips = skips (c .before); tries = inl (record { none = c .if1 .taken; same = refl; less = refl }) }
+returns c = record { to = to (c .before); skips = skips (c .before); plain = _; tries = inl (record { none = c .if1 .taken; same = refl; less = refl }); closed = stays refl }
 
 put-requires : tie.Need-put-requires
 put-requires c κs =
@@ -41,7 +41,9 @@ returns-2 c =
     record {
       to = to k;
       skips = skips k;
-      tries = inr (inl (lists-it (s .fills-question) (s .fills-rule) (s .m .now) (s .question .now) (s .marks .now) (to k) (s .depth) (c .before .before .before .before .before .before .before .before .before .if1 .left) _ _ _ _ (d .decide .ensures) _ (placed-at _ (s .p) (k .seek .result) _ _ _ _ _ (c .place-points .ensures)) (c .before .before .before .before .before .before .if2 .taken) _
+      plain = c .place-points .ensures .plain;
+      closed = c .place-points .ensures .closed;
+      tries = inr (inl (lists-it (s .fills-question) (s .fills-rule) (s .m .now) (s .question .now) (s .marks .now) (to k) (s .depth) (c .before .before .before .before .before .before .before .before .before .if1 .left) _ _ _ _ (d .decide .ensures) _ (placed-at _ (s .p) (k .seek .result) _ _ _ _ _ (c .place-points .ensures .placed)) (c .before .before .before .before .before .before .if2 .taken) _
           (subst (Puts (s .marks .now) (c .before .before .before .put .last .0)) (c .before .before .before .before .cell-of .ensures) (c .before .before .before .put .ensures))));
     }
 
@@ -52,7 +54,9 @@ returns-3 c =
     record {
       to = to k;
       skips = skips k;
-      tries = inr (inr (goes-by (s .fills-question) (s .fills-rule) (s .m .now) (s .question .now) (s .marks .now) (to k) (s .depth) (c .before .before .before .before .if1 .left) _ _ _ _ (c .before .before .decide .ensures) _ (placed-at _ (s .p) (k .seek .result) _ _ _ _ _ (c .place-points2 .ensures)) (c .before .if2 .left)));
+      plain = c .place-points2 .ensures .plain;
+      closed = c .place-points2 .ensures .closed;
+      tries = inr (inr (goes-by (s .fills-question) (s .fills-rule) (s .m .now) (s .question .now) (s .marks .now) (to k) (s .depth) (c .before .before .before .before .if1 .left) _ _ _ _ (c .before .before .decide .ensures) _ (placed-at _ (s .p) (k .seek .result) _ _ _ _ _ (c .place-points2 .ensures .placed)) (c .before .if2 .left)));
     }
 
 pub turn-spec : {M : Type 1} → statement M
@@ -68,8 +72,8 @@ turn-spec =
     (λ c κs. c .before .before .before .before .before .before .pre .stands)
     (λ c κs. search needs)
     put-requires
-    (λ c κs. c .before .before .before .before .before .before .before .before .before .before .before .before .before .pre .deep)
+    (λ c κs. let p = c .before .before .before .before .before .before .before .before .before .before .before .before .before .pre in (p .some, p .deep))
     (λ c. search needs)
     returns-2
-    (λ c κs. c .before .before .before .before .before .before .before .before .pre .deep)
+    (λ c κs. let p = c .before .before .before .before .before .before .before .before .pre in (p .some, p .deep))
     returns-3)
