@@ -4,7 +4,7 @@ pub mod records;
 
 ghost use mathlib.Core.Path.{_≡_};
 ghost use Prim.Native.Nat.{_+_, _<_};
-ghost use lib.ListN.{drop};
+ghost use lib.ListN.{length, drop};
 ghost use Rattle.book.specs.Memory.{Passing, rulesIn};
 ghost use Rattle.batch.specs.Commands.{termSize, stopOf, does};
 ghost use Rattle.batch.specs.Promises.{Read, Does, Ran, Runs};
@@ -46,15 +46,18 @@ fn stop_of(command: Command) -> u64
 }
 
 // Does a command, with the cells from `from` on behind it, and writes its record; the cells written, 0 where there is no room.
+// The marks are memory for a question to work in.
 fn do_command(
     book: &mut [u64],
     cells: &[u16],
     from: usize,
     command: Command,
+    marks: &mut [u64],
     out: &mut [u16],
 ) -> usize
     requires { ⌜ Passing (now book) ⌝ }
     requires { ⌜ Read (drop from (now cells)) command ⌝ }
+    requires { ⌜ length (now marks) ≡ 65 ⌝ }
     ensures { λ n. ⌜ Does (does (rulesIn (now (book .entry))) (drop from (now (cells .entry))) command) (now (book .entry)) (now (book .exit)) (now (out .entry)) (now (out .exit)) n ⌝ }
 {
     match command {
@@ -65,7 +68,7 @@ fn do_command(
         Command::Remove(number) => records::remove(book, number, out),
         Command::Ask(kind, size) => {
             let end = from + size;
-            records::ask(book, kind, &cells[from..end], out)
+            records::ask(book, kind, &cells[from..end], marks, out)
         }
         Command::Show(number) => records::show(book, number, out),
         Command::Room => records::room(book, out),
@@ -73,16 +76,24 @@ fn do_command(
     }
 }
 
-// The commands in turn, on a book that passes.
+// The commands in turn, on a book that passes. The marks are made once, since no question minds what an earlier one left there.
 fn run_commands(book: &mut [u64], commands: &[u16], output: &mut [u16]) -> Ended
     requires { ⌜ Passing (now book) ⌝ }
     ensures { λ r. ⌜ Ran (now (book .entry)) (now (book .exit)) (now (commands .entry)) (now (output .entry)) (now (output .exit)) (r .stop) (r .used) (r .written) ⌝ }
 {
+    let mut marks = [0u64; 65];
     let mut used: usize = 0;
     let mut written: usize = 0;
     while used < commands.len() {
         let command = reader::read_command(commands, used);
-        let n = do_command(book, commands, used + 1, command, &mut output[written..]);
+        let n = do_command(
+            book,
+            commands,
+            used + 1,
+            command,
+            &mut marks,
+            &mut output[written..],
+        );
         if n == 0 {
             return Ended {
                 stop: 10,

@@ -124,26 +124,27 @@ fn has_room(marks: &[u64], room: usize) -> bool
     questions::count(marks) < room
 }
 
-// Lists the rules that answer a question. Whether they have room is known before anything is written.
-pub fn ask(book: &[u64], kind: u16, question: &[u16], out: &mut [u16]) -> usize
+// Lists the rules that answer a question. Whether they have room is known before anything is written. The marks are memory to
+// work in: what they held goes, and what they hold afterwards is of no matter.
+pub fn ask(book: &[u64], kind: u16, question: &[u16], marks: &mut [u64], out: &mut [u16]) -> usize
     requires { ⌜ Passing (now book) ⌝ }
     requires { ⌜ (2 ≤ kind) × (kind ≤ 5) ⌝ }
     requires { ⌜ IsTerm (now question) ⌝ }
+    requires { ⌜ length (now marks) ≡ 65 ⌝ }
     ensures { λ n. ⌜ Writes (asks (rulesIn (now (book .entry))) kind (now (question .entry)) .answer) (now (out .entry)) (now (out .exit)) n ⌝ }
 {
-    let mut marks = [0u64; 65];
-    bits::numbers::empty(&mut marks);
+    bits::numbers::empty(marks);
     questions::mark_answers(
         book,
         fills_question(kind),
         fills_rule(kind),
         question,
-        &mut marks,
+        marks,
     );
-    if !has_room(&marks, out.len()) {
+    if !has_room(marks, out.len()) {
         return 0;
     }
-    let count = questions::list(&marks, &mut out[1..]);
+    let count = questions::list(marks, &mut out[1..]);
     out[0] = count as u16;
     count + 1
 }

@@ -6,7 +6,7 @@ use mathlib.Core.List.{List}
 use mathlib.Core.Bool.{Bool}
 use Prim.Native.Nat.{ℕ, _+_, _*_, _-_, _≤_, _<_}
 use native.Mathlib.Omega.{arith}
-use lib.ListN.{length, length-set}
+use lib.ListN.{length}
 use borrow.Rule.Slice.PartMut.{putMid, same-len-mid, mid-len}
 use Rattle.book.specs.Memory.{rulesIn}
 use Rattle.bits.specs.Numbers.{NumberSet, has}
@@ -21,7 +21,7 @@ use Rattle.batch.proofs.records.ask.Tie as tie
 
 module _ (r : tie.After-mark-answers) where
   abbrev s : tie.Start
-  s = r .before .before .before .before .before .before .before .before .before .before
+  s = r .before .before .before .before .before .before .before .before .before .before .before .before
 
   abbrev marks : List ℕ
   marks = r .mark-answers .last .1 .1 .1 .1 .0
@@ -33,7 +33,7 @@ module _ (r : tie.After-mark-answers) where
   fr = r .before .before .fills-rule .result
 
   answering : Asked fq fr (s .args .book .now) (s .args .question .now) marks
-  answering = asked fq fr (s .args .book .now) (s .args .question .now) _ marks (r .before .before .before .before .before .empty .ensures .none) (r .mark-answers .ensures)
+  answering = asked fq fr (s .args .book .now) (s .args .question .now) _ marks (r .before .before .before .before .before .before .empty .ensures .none) (r .mark-answers .ensures)
 
   map : NumberSet marks
   map = r .mark-answers .ensures .map
@@ -46,26 +46,26 @@ module _ (r : tie.After-mark-answers) where
 
 returns : tie.Need-returns
 returns c =
-    let out = s (c .before .before .before .before) .args .out .now in
-    let h = ltb-false (length (numbers (has (marks (c .before .before .before .before))) 4096)) (length out) (sym (c .before .has-room .ensures) ∙ not-true _ (c .if1 .taken)) in
-    no-room (asks (rulesIn (s (c .before .before .before .before) .args .book .now)) (s (c .before .before .before .before) .args .kind) (s (c .before .before .before .before) .args .question .now) .answer) out (subst (λ (n : ℕ). length out ≤ n) (ap length (answers-are (c .before .before .before .before))) h)
+    let out = s (c .before .before .before .before .before) .args .out .now in
+    let h = ltb-false (length (numbers (has (marks (c .before .before .before .before .before))) 4096)) (length out) (sym (c .before .has-room .ensures) ∙ not-true _ (c .if1 .taken)) in
+    no-room (asks (rulesIn (s (c .before .before .before .before .before) .args .book .now)) (s (c .before .before .before .before .before) .args .kind) (s (c .before .before .before .before .before) .args .question .now) .answer) out (subst (λ (n : ℕ). length out ≤ n) (ap length (answers-are (c .before .before .before .before .before))) h)
 
 -- the list has room
-room : (e : tie.Else1) → length (numbers (has (marks (e .before .before .before .before))) 4096) < length (s (e .before .before .before .before) .args .out .now)
-room e = ltb-true (length (numbers (has (marks (e .before .before .before .before))) 4096)) (length (s (e .before .before .before .before) .args .out .now)) (sym (e .before .has-room .ensures) ∙ not-false _ (e .if1 .left))
+room : (e : tie.Else1) → length (numbers (has (marks (e .before .before .before .before .before))) 4096) < length (s (e .before .before .before .before .before) .args .out .now)
+room e = ltb-true (length (numbers (has (marks (e .before .before .before .before .before))) 4096)) (length (s (e .before .before .before .before .before) .args .out .now)) (sym (e .before .has-room .ensures) ∙ not-false _ (e .if1 .left))
 
 list-requires : tie.Need-list-requires
 list-requires c κs =
-    let out = s (c .before .before .before .before .before .before) .args .out .now in
+    let out = s (c .before .before .before .before .before .before .before) .args .out .now in
     let h = room (c .before .before) in
-    (map (c .before .before .before .before .before .before), fits _ _ _ h (mid-len 1 (length out) out (omega arith)))
+    (map (c .before .before .before .before .before .before .before), fits _ _ _ h (mid-len 1 (length out) out (omega arith)))
   where
     fits : (n k m : ℕ) → n < k → m ≡ k - 1 → n ≤ m
     fits n k m h e = omega arith
 
-module _ (c : tie.After-slice-known2) where
+module _ (c : tie.After-slice-known5) where
   abbrev a : tie.After-mark-answers
-  a = c .before .before .before .before .before .before .before .before .before
+  a = c .before .before .before .before .before .before .before .before .before .before
 
   abbrev out : List ℕ
   out = s a .args .out .now
@@ -98,9 +98,6 @@ slice-write-out c = let h = room (c .before .before .before .before .before) in 
 add-result : tie.Need-add-result
 add-result c = let h = low c in omega arith
 
-same-length : tie.Need-same-length
-same-length c = length-set (put c) 0 (c .before .before .list .result) ∙ put-long c
-
 returns-2 : tie.Need-returns-2
 returns-2 c =
     let t = s (a c) in
@@ -117,16 +114,13 @@ pub ask-spec : {M : Type 1} → statement M
 ask-spec =
     tie.close
     (tie.spec
-    (λ c. search needs)
     (λ c κs. search needs)
     (λ c κs. search needs)
     (λ c κs. search needs)
+    (λ c κs. let s = c .before .before .before .before .before .before .before .before .before .before .before in (s .pre .0, (s .pre .1 .1 .0, c .before .before .before .before .before .empty .ensures .is-set)))
+    (λ c κs. (map (c .before .before .before), few (c .before .before .before)))
     (λ c. search needs)
-    (λ c κs. let s = c .before .before .before .before .before .before .before .before .before in (s .pre .0, (s .pre .1 .1, c .before .before .before .before .empty .ensures .is-set)))
-    (λ c. search needs)
-    (λ c κs. (map (c .before .before), few (c .before .before)))
     returns
-    (λ c. search needs)
     sub-list
     part-list-start
     (λ c. search needs)
@@ -134,5 +128,6 @@ ask-spec =
     cast-out
     slice-write-out
     add-result
-    same-length
+    (λ c. search needs)
+    (λ c. search needs)
     returns-2)
