@@ -11,7 +11,7 @@ ghost use Rattle.tree.specs.Promises.{Further, Onward};
 
 // Has a node with this cell a finger? The factor spreads those that have over cells that follow each other.
 fn has_finger(cell: u64) -> bool {
-    cell % 65536 * 40503 % 65536 < 4096
+    cell % 65536 * 40503 % 65536 < 8192
 }
 
 // Does the link f lead to a sibling further on than the node with the word w, with a cell of `most` at the most?
