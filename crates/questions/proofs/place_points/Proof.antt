@@ -14,4 +14,4 @@ returns-2 c = let s = c .before .before .args in
     record { beside = ap (λ (x : ℕ). record { link = x; skip = s .p .skip; place = s .p .place }) (c .before .next-of .ensures); below = refl; level = λ z. absurd (c .if1 .left z); more = λ n. refl }
 
 pub place-points-spec : {M : Type 1} → statement M
-place-points-spec = tie.close (tie.spec (λ c κs. search needs) returns (λ c. search needs) returns-2)
+place-points-spec = tie.close (tie.spec (λ c κs. search needs) (λ c. search needs) returns (λ c. search needs) returns-2)
