@@ -68,6 +68,9 @@ module _ (fq fr : Bool) (ws q marks₀ marks : List ℕ) (l : List Point) (depth
     stand : Stands q (pointAt l k .skip) (pointAt l k .place)
     stand = stands fq fr ws q (i .0) marks₀ marks l k s
 
+    low-skip : pointAt l k .skip ≤ 231
+    low-skip = let x = s .small k (omega arith) .few in let d = i .1 .deep in omega arith
+
     module _ (nz : ¬ (pointAt l k .link ≡ 0)) where
       n : ℕ
       n = pointAt l k .link - 1
@@ -337,6 +340,7 @@ module _ (fq fr : Bool) (ws q marks₀ marks : List ℕ) (l : List Point) (depth
     threaded = record { passing = i .0 .passing; used = λ n e. used-at n e };
     map = i .1 .map;
     stands = stand fq fr ws q marks₀ marks l depth i h;
+    few = low-skip fq fr ws q marks₀ marks l depth i h;
     some = h;
     deep = i .1 .deep;
     each = λ x s. subst (Tryable fq fr ws q) (at-skipped x) (tryable fq fr ws q marks₀ marks (set l (depth - 1) x) depth (skipped fq fr ws q marks₀ marks l depth i h s .loop) h);

@@ -109,6 +109,7 @@ pub record Stood (fq fr : Bool) (ws question marks : List ℕ) (p : Point) (dept
   pub threaded : Threaded ws (p .link)
   pub map : NumberSet marks
   pub stands : Stands question (p .skip) (p .place)
+  pub few : p .skip ≤ 231
   pub some : 0 < depth
   pub deep : depth ≤ 34
   pub each : (x : Point) → Skips fq fr ws question p x → Tryable fq fr ws question x

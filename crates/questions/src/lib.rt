@@ -14,20 +14,21 @@ ghost use Rattle.questions.specs.Asking.{numbers};
 ghost use Rattle.questions.specs.Promises.{Turned, Stacked, Reach, Sought, Decisive, Skips, moved, Threaded, Stood, Became, IsRoot, Rooted, Searched, Lists};
 use term::machine;
 
-// A point still to be tried: a link, the subterms of a rule still to skip there, and the place in the question.
+// A point still to be tried: a link, the subterms of a rule still to skip there, and the place in the question. It is small, since
+// each question makes a list of them.
 pub struct Point {
-    pub link: usize,
-    pub skip: usize,
-    pub place: usize,
+    pub link: u16,
+    pub skip: u16,
+    pub place: u16,
 }
 
 // What to do at a node: its rule is listed; or its first child is the link to go down to, with the machine's next spot; or
 // neither, and the link is 0.
 pub struct Decision {
     pub listed: bool,
-    pub down: usize,
-    pub skip: usize,
-    pub place: usize,
+    pub down: u16,
+    pub skip: u16,
+    pub place: u16,
 }
 
 // All that is decided at a node whose word is w.
@@ -40,6 +41,7 @@ pub fn decide(
     place: usize,
 ) -> Decision
     requires { ⌜ Stands (now question) skip place ⌝ }
+    requires { ⌜ skip ≤ 231 ⌝ }
     ensures { λ r. ⌜ Turned «fills_question» «fills_rule» (now (question .entry)) w skip place (r .listed) (r .down) (r .skip) (r .place) ⌝ }
 {
     if machine::accepts(question, skip, place) {
@@ -61,9 +63,9 @@ pub fn decide(
     if s.alive {
         return Decision {
             listed: false,
-            down: tree::first_of(w) as usize,
-            skip: s.skip,
-            place: s.place,
+            down: tree::first_of(w) as u16,
+            skip: s.skip as u16,
+            place: s.place as u16,
         };
     }
     Decision {
@@ -88,7 +90,7 @@ pub fn place_points(w: u64, p: Point, t: Decision, depth: usize) -> Points
     requires { ⌜ depth ≤ 34 ⌝ }
     ensures { λ r. ⌜ Stacked w p (t .down) (t .skip) (t .place) depth r ⌝ }
 {
-    let next = tree::next_of(w) as usize;
+    let next = tree::next_of(w) as u16;
     let beside = Point {
         link: next,
         skip: p.skip,
@@ -193,14 +195,15 @@ fn seek(m: &[u64], fills_question: bool, fills_rule: bool, question: &[u16], p: 
     requires { ⌜ Threaded (now m) (p .link) ⌝ }
     ensures { λ r. ⌜ Skips «fills_question» «fills_rule» (now (m .entry)) (now (question .entry)) p (moved p r) ⌝ }
 {
-    let c = wanted(fills_question, question, p.skip, p.place);
+    let link = p.link as usize;
+    let c = wanted(fills_question, question, p.skip as usize, p.place as usize);
     if c == 65536 {
-        return p.link;
+        return link;
     }
     if fills_rule {
-        return sibling(m, c, 65536, p.link);
+        return sibling(m, c, 65536, link);
     }
-    sibling(m, c, c, p.link)
+    sibling(m, c, c, link)
 }
 
 // A turn of the search at the point p, the last of `depth`: siblings at which the machine fails are skipped; without a node the
@@ -226,7 +229,14 @@ pub fn turn(
         };
     }
     let w = m[72 + x];
-    let t = decide(fills_question, fills_rule, question, w, p.skip, p.place);
+    let t = decide(
+        fills_question,
+        fills_rule,
+        question,
+        w,
+        p.skip as usize,
+        p.place as usize,
+    );
     if t.listed {
         bits::numbers::put(marks, tree::cell_of(w) as usize);
         return place_points(w, p, t, depth);
@@ -239,7 +249,7 @@ pub fn root(m: &[u64]) -> Point
     requires { ⌜ Passing (now m) ⌝ }
     ensures { λ r. ⌜ IsRoot (now (m .entry)) r ⌝ }
 {
-    let first = tree::first_of(m[72]) as usize;
+    let first = tree::first_of(m[72]) as u16;
     Point {
         link: first,
         skip: 0,
@@ -270,7 +280,8 @@ pub fn search(
     }
 }
 
-// The same with the list made here, at the length that is always enough.
+// The same with the list made here, at the length that is always enough. All its points but the first are zeros, which cost
+// less to write than copies of the root.
 pub fn mark_answers(
     m: &[u64],
     fills_question: bool,
@@ -284,7 +295,13 @@ pub fn mark_answers(
     ensures { λ _. ⌜ Searched «fills_question» «fills_rule» (now (m .entry)) (now (question .entry)) (now (marks .entry)) (now (marks .exit)) ⌝ }
 {
     let first = root(m);
-    let mut list = [first; 35];
+    let none = Point {
+        link: 0,
+        skip: 0,
+        place: 0,
+    };
+    let mut list = [none; 35];
+    list[0] = first;
     search(m, fills_question, fills_rule, question, marks, &mut list);
 }
 

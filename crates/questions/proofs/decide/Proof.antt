@@ -12,11 +12,11 @@ returns c =
 
 returns-2 : tie.Need-returns-2
 returns-2 c =
-    let k = c .before .before in
+    let k = c .before .before .before .before in
     let e = k .before .before in
     let s = e .before .before .before in
     goes-down (s .args .fills-question) (s .args .fills-rule) (s .args .question .now) (s .args .w) (s .args .skip) (s .args .place) (e .before .accepts .result) (e .before .accepts .ensures) (e .if1 .left)
-    (k .before .cell-of .result) (k .before .cell-of .ensures) _ _ _ (k .step .ensures) (c .before .if2 .taken) _ (c .first-of .ensures)
+    (k .before .cell-of .result) (k .before .cell-of .ensures) _ _ _ (k .step .ensures) (c .before .before .before .if2 .taken) _ (c .before .before .first-of .ensures)
 
 returns-3 : tie.Need-returns-3
 returns-3 c =
@@ -36,5 +36,8 @@ decide-spec =
     (λ c. search needs)
     (λ c κs. search needs)
     (λ c κs. search needs)
+    (λ c. search needs)
+    (λ c. search needs)
+    (λ c. search needs)
     returns-2
     returns-3)

@@ -17,4 +17,4 @@ returns-4 : tie.Need-returns-4
 returns-4 c = let s = c .before .before .before .args in both-some (s .w) (s .p) _ (s .t .down) (s .t .skip) (s .t .place) (s .depth) (c .before .before .next-of .ensures) (c .if3 .left)
 
 pub place-points-spec : {M : Type 1} → statement M
-place-points-spec = tie.close (tie.spec (λ c κs. search needs) (λ c. search needs) returns returns-2 returns-3 (λ c. search needs) returns-4)
+place-points-spec = tie.close (tie.spec (λ c κs. search needs) (λ c. search needs) (λ c. search needs) returns returns-2 returns-3 (λ c. search needs) returns-4)

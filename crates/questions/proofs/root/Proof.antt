@@ -8,4 +8,4 @@ returns : tie.Need-returns
 returns c = record { words = λ i. c .before .before .shared-slice-known .given i .fits; link = c .first-of .ensures; skip = refl; place = refl }
 
 pub root-spec : {M : Type 1} → statement M
-root-spec = tie.close (tie.spec (λ c. search needs) (λ c κs. search needs) returns)
+root-spec = tie.close (tie.spec (λ c. search needs) (λ c κs. search needs) (λ c. search needs) returns)

@@ -101,17 +101,17 @@ abbrev round : Code
 round = seq (assign (place 11 []) (op2 (lt unsigned) (int w64 0) (copy (place 7 []))))
     (seq (cond (copy (place 11 [])) skipᴹ (exit 1))
     (seq (assign (place 8 []) (op2 (subᴹ unsigned) (copy (place 7 [])) (int w64 1)))
-    (seq (assign (place 12 []) (op2 (mul unsigned) (copy (place 8 [])) (int w64 24)))
+    (seq (assign (place 12 []) (op2 (mul unsigned) (copy (place 8 [])) (int w64 6)))
     (seq (assign (place 13 []) (op2 offset (copy (place 6 (field 0 ∷ []))) (copy (place 12 []))))
     (seq (assign (place 14 []) (rvOpd (copy (place 13 (deref T′.mir ∷ [])))))
     (seq (assign (place 9 []) (rvOpd (copy (place 14 []))))
     (seq (assign (place 15 []) (addrOf (place 5 (field 0 ∷ deref word ∷ []))))
     (seq (assign (place 16 []) (aggregate (copy (place 15 []) ∷ copy (place 5 (field 1 ∷ [])) ∷ [])))
     (seq (call #questions·turn (copy (place 1 []) ∷ copy (place 2 []) ∷ copy (place 3 []) ∷ copy (place 4 []) ∷ copy (place 16 []) ∷ copy (place 9 []) ∷ copy (place 7 []) ∷ []) (place 10 []))
-    (seq (assign (place 12 []) (op2 (mul unsigned) (copy (place 8 [])) (int w64 24)))
+    (seq (assign (place 12 []) (op2 (mul unsigned) (copy (place 8 [])) (int w64 6)))
     (seq (assign (place 17 []) (op2 offset (copy (place 6 (field 0 ∷ []))) (copy (place 12 []))))
     (seq (assign (place 17 (deref T′.mir ∷ [])) (rvOpd (copy (place 10 (field 0 ∷ [])))))
-    (seq (assign (place 12 []) (op2 (mul unsigned) (copy (place 7 [])) (int w64 24)))
+    (seq (assign (place 12 []) (op2 (mul unsigned) (copy (place 7 [])) (int w64 6)))
     (seq (assign (place 18 []) (op2 offset (copy (place 6 (field 0 ∷ []))) (copy (place 12 []))))
     (seq (assign (place 18 (deref T′.mir ∷ [])) (rvOpd (copy (place 10 (field 1 ∷ [])))))
     (assign (place 7 []) (rvOpd (copy (place 10 (field 2 ∷ []))))))))))))))))))))
@@ -253,8 +253,8 @@ module _ {M : Type 1} (𝓤 : URA M) (H : Heap 𝓤) (A : Atoms 𝓤) (W : Given
           let one : 1 ≤ depth = omega arith in
           let kf : depth - 1 < 2 ^ 64 = omega arith in
           let df : depth < 2 ^ 64 = omega arith in
-          let kt : (depth - 1) * 24 < 2 ^ 64 = omega arith in
-          let dt : depth * 24 < 2 ^ 64 = omega arith in
+          let kt : (depth - 1) * 6 < 2 ^ 64 = omega arith in
+          let dt : depth * 6 < 2 ^ 64 = omega arith in
           let kin : depth - 1 < length zs = omega arith in
           qed W (At ns zs depth) ∵ exec ! C Λ En round (anyQ (afterTurn 𝓤 H X Left)) $
           assigns ! (bin ! (lit ! tt) (load ! (from ! (stop !)) (look ! 7 refl)) tt) (from ! (stop !)) (init ! 11 refl (tt, tt)) $
@@ -262,7 +262,7 @@ module _ {M : Type 1} (𝓤 : URA M) (H : Heap 𝓤) (A : Atoms 𝓤) (W : Given
           assigns ! (bin ! (load ! (from ! (stop !)) (look ! 7 refl)) (lit ! tt) one) (from ! (stop !)) (init ! 8 refl (tt, record { fits = kf })) $
           assigns ! (bin ! (load ! (from ! (stop !)) (look ! 8 refl)) (lit ! tt) (record { fits = kt })) (from ! (stop !)) (init ! 12 refl (tt, record { fits = kt })) $
           assigns ! (bin ! (load ! (from ! (fld ! refl (stop !))) (look-in ! 24 (sub ! 0 refl (whole !)))) (load ! (from ! (stop !)) (look ! 12 refl)) tt) (from ! (stop !)) (init ! 13 refl (tt, tt)) $
-          rewrite ! 13 (λ (n : ℕ). ‵ (fat fullShare tyPtr l₁₃ 0 (vptr b n))) (sym (place-is 24 o k)) refl $
+          rewrite ! 13 (λ (n : ℕ). ‵ (fat fullShare tyPtr l₁₃ 0 (vptr b n))) (sym (place-is 6 o k)) refl $
           elem-out ! R (Is R) (shows 𝓤 H A R) (LL.vals T.the-type T′.the-laws) (LL.tells T.the-type T′.the-laws) fullShare zs k blank b o kin (λ gp.
           assigns ! (of-opd ! (load ! (from ! (hop ! (look ! 15 refl) (stop !))) (look-raw ! 0 refl))) (from ! (stop !)) (init ! 16 refl (LL.lawful T.the-type T′.the-laws 𝓤 H A W .typed p _ gp .0)) $
           assigns ! (of-opd ! (load ! (from ! (stop !)) (look ! 16 refl))) (from ! (stop !)) (init ! 11 refl (LL.lawful T.the-type T′.the-laws 𝓤 H A W .typed p _ gp .0)) $
@@ -301,14 +301,14 @@ module _ {M : Type 1} (𝓤 : URA M) (H : Heap 𝓤) (A : Atoms 𝓤) (W : Given
           -- the sibling is stored
           assigns ! (bin ! (load ! (from ! (stop !)) (look ! 8 refl)) (lit ! tt) (record { fits = kt })) (from ! (stop !)) (store ! 12 refl (tt, record { fits = kt })) $
           assigns ! (bin ! (load ! (from ! (fld ! refl (stop !))) (look-in ! 24 (sub ! 0 refl (whole !)))) (load ! (from ! (stop !)) (look ! 12 refl)) tt) (from ! (stop !)) (init ! 17 refl (tt, tt)) $
-          rewrite ! 17 (λ (n : ℕ). ‵ (fat fullShare tyPtr l₁₇ 0 (vptr b n))) (sym (place-is 24 o k)) refl $
+          rewrite ! 17 (λ (n : ℕ). ‵ (fat fullShare tyPtr l₁₇ 0 (vptr b n))) (sym (place-is 6 o k)) refl $
           elem-out ! R (Is R) (shows 𝓤 H A R) (LL.vals T.the-type T′.the-laws) (LL.tells T.the-type T′.the-laws) fullShare zs k blank b o kin (λ _.
           assigns ! (of-opd ! (load ! (from ! (fld ! refl (stop !))) (look-in ! 12 (sub ! 0 refl (whole !))))) (from ! (hop ! (look ! 19 refl) (stop !))) (store-raw ! 0 refl (LL.lawful T.the-type T′.the-laws 𝓤 H A W .typed (r .beside) _ (fields r w is .0) .0)) $
           move ! (1 ∷ []) $ drop ! $ owned ! R (Is R) (LL.makes T.the-type T′.the-plain 𝓤 H A) (r .beside) _ (fields r w is .0) $ move ! (1 ∷ 0 ∷ []) $ elem-put ! R fullShare zs k (r .beside) (T′.lowered (r .beside) ∷ []) b o kin $
           -- the point above it is stored
           assigns ! (bin ! (load ! (from ! (stop !)) (look ! 7 refl)) (lit ! tt) (record { fits = dt })) (from ! (stop !)) (store ! 12 refl (tt, record { fits = dt })) $
           assigns ! (bin ! (load ! (from ! (fld ! refl (stop !))) (look-in ! 24 (sub ! 0 refl (whole !)))) (load ! (from ! (stop !)) (look ! 12 refl)) tt) (from ! (stop !)) (init ! 18 refl (tt, tt)) $
-          rewrite ! 18 (λ (n : ℕ). ‵ (fat fullShare tyPtr l₁₈ 0 (vptr b n))) (sym (place-is 24 o depth)) refl $
+          rewrite ! 18 (λ (n : ℕ). ‵ (fat fullShare tyPtr l₁₈ 0 (vptr b n))) (sym (place-is 6 o depth)) refl $
           elem-out ! R (Is R) (shows 𝓤 H A R) (LL.vals T.the-type T′.the-laws) (LL.tells T.the-type T′.the-laws) fullShare (set zs k (r .beside)) depth blank b o (there (r .beside) deep long) (λ _.
           assigns ! (of-opd ! (load ! (from ! (fld ! refl (stop !))) (look-in ! 12 (sub ! 1 refl (whole !))))) (from ! (hop ! (look ! 20 refl) (stop !))) (store-raw ! 0 refl (LL.lawful T.the-type T′.the-laws 𝓤 H A W .typed (r .below) _ (fields r w is .1 .0) .0)) $
           move ! (1 ∷ []) $ drop ! $ owned ! R (Is R) (LL.makes T.the-type T′.the-plain 𝓤 H A) (r .below) _ (fields r w is .1 .0) $ move ! (1 ∷ 0 ∷ []) $ elem-put ! R fullShare (set zs k (r .beside)) depth (r .below) (T′.lowered (r .below) ∷ []) b o (there (r .beside) deep long) $

@@ -30,12 +30,12 @@ returns c = record { to = to (c .before); skips = skips (c .before); plain = _; 
 
 put-requires : tie.Need-put-requires
 put-requires c κs =
-    let k = c .before .before .before .before .before .before in
-    (k .before .before .before .before .pre .map, subst (λ (x : ℕ). x < 4096) (sym (c .cell-of .ensures)) (tryable k .number (c .before .before .before .before .before .if1 .left) (sym (c .before .before .before .decide .ensures .lists-is) ∙ c .before .before .if2 .taken)))
+    let k = c .before .before .before .before .before .before .before .before in
+    (k .before .before .before .before .pre .map, subst (λ (x : ℕ). x < 4096) (sym (c .cell-of .ensures)) (tryable k .number (c .before .before .before .before .before .before .before .if1 .left) (sym (c .before .before .before .decide .ensures .lists-is) ∙ c .before .before .if2 .taken)))
 
 returns-2 : tie.Need-returns-2
 returns-2 c =
-    let k = c .before .before .before .before .before .before .before .before .before .before in
+    let k = c .before .before .before .before .before .before .before .before .before .before .before .before in
     let s = k .before .before .before .before .args in
     let d = c .before .before .before .before .before .before .before in
     record {
@@ -43,20 +43,20 @@ returns-2 c =
       skips = skips k;
       plain = c .place-points .ensures .plain;
       closed = c .place-points .ensures .closed;
-      tries = inr (inl (lists-it (s .fills-question) (s .fills-rule) (s .m .now) (s .question .now) (s .marks .now) (to k) (s .depth) (c .before .before .before .before .before .before .before .before .before .if1 .left) _ _ _ _ (d .decide .ensures) _ (placed-at _ (s .p) (k .seek .result) _ _ _ _ _ (c .place-points .ensures .placed)) (c .before .before .before .before .before .before .if2 .taken) _
+      tries = inr (inl (lists-it (s .fills-question) (s .fills-rule) (s .m .now) (s .question .now) (s .marks .now) (to k) (s .depth) (c .before .before .before .before .before .before .before .before .before .before .before .if1 .left) _ _ _ _ (d .decide .ensures) _ (placed-at _ (s .p) (k .seek .result) _ _ _ _ _ (c .place-points .ensures .placed)) (c .before .before .before .before .before .before .if2 .taken) _
           (subst (Puts (s .marks .now) (c .before .before .before .put .last .0)) (c .before .before .before .before .cell-of .ensures) (c .before .before .before .put .ensures))));
     }
 
 returns-3 : tie.Need-returns-3
 returns-3 c =
-    let k = c .before .before .before .before .before in
+    let k = c .before .before .before .before .before .before .before in
     let s = k .before .before .before .before .args in
     record {
       to = to k;
       skips = skips k;
       plain = c .place-points2 .ensures .plain;
       closed = c .place-points2 .ensures .closed;
-      tries = inr (inr (goes-by (s .fills-question) (s .fills-rule) (s .m .now) (s .question .now) (s .marks .now) (to k) (s .depth) (c .before .before .before .before .if1 .left) _ _ _ _ (c .before .before .decide .ensures) _ (placed-at _ (s .p) (k .seek .result) _ _ _ _ _ (c .place-points2 .ensures .placed)) (c .before .if2 .left)));
+      tries = inr (inr (goes-by (s .fills-question) (s .fills-rule) (s .m .now) (s .question .now) (s .marks .now) (to k) (s .depth) (c .before .before .before .before .before .before .if1 .left) _ _ _ _ (c .before .before .decide .ensures) _ (placed-at _ (s .p) (k .seek .result) _ _ _ _ _ (c .place-points2 .ensures .placed)) (c .before .if2 .left)));
     }
 
 pub turn-spec : {M : Type 1} → statement M
@@ -69,11 +69,13 @@ turn-spec =
     (λ c. let h = tryable (c .before) .within in omega arith)
     (λ c. let h = tryable (c .before) .within in omega arith)
     (λ c. let h = tryable (c .before .before) .within in omega (arith, size (c .before .before)))
-    (λ c κs. c .before .before .before .before .before .before .pre .stands)
+    (λ c. search needs)
+    (λ c. search needs)
+    (λ c κs. let s = c .before .before .before .before .before .before .before .before in (s .pre .stands, s .pre .few))
     (λ c κs. search needs)
     put-requires
-    (λ c κs. let p = c .before .before .before .before .before .before .before .before .before .before .before .before .before .pre in (p .some, p .deep))
+    (λ c κs. let p = c .before .before .before .before .before .before .before .before .before .before .before .before .before .before .before .pre in (p .some, p .deep))
     (λ c. search needs)
     returns-2
-    (λ c κs. let p = c .before .before .before .before .before .before .before .before .pre in (p .some, p .deep))
+    (λ c κs. let p = c .before .before .before .before .before .before .before .before .before .before .pre in (p .some, p .deep))
     returns-3)
