@@ -1,4 +1,4 @@
-// Fingers: a link to a sibling further on, for one sibling in sixteen, so that long lists of siblings are passed by leaps.
+// Fingers: a link to a sibling further on, for one sibling in eight, so that long lists of siblings are passed by leaps.
 //
 // They stand in 1,153 words of their own, the finger of link l as field l. A finger is a hint: who follows one looks first
 // where it leads. So the check doesn't read them, removing a rule leaves them, and a wrong one costs time and never an answer.
@@ -9,9 +9,9 @@ ghost use lib.ListN.{length};
 ghost use Rattle.tree.specs.Words.{shape};
 ghost use Rattle.tree.specs.Promises.{Further, Onward};
 
-// Has a node with this cell a finger? The factor spreads those that have over cells that follow each other.
+// Has a node with this cell a finger? Names are numbered one after the other, so those that have are spread evenly.
 fn has_finger(cell: u64) -> bool {
-    cell % 65536 * 40503 % 65536 < 8192
+    cell % 8 == 0
 }
 
 // Does the link f lead to a sibling further on than the node with the word w, with a cell of `most` at the most?
@@ -45,9 +45,11 @@ pub fn onward(m: &[u64], fingers: &[u64], x: usize, w: u64, most: u64) -> usize
     requires { ⌜ x ≤ 4608 ⌝ }
     ensures { λ r. ⌜ Onward (shape (now (m .entry))) w most r ⌝ }
 {
-    let f = bits::field(fingers, x) as usize;
-    if is_further(m, w, f, most) {
-        return f;
+    if has_finger(crate::cell_of(w)) {
+        let f = bits::field(fingers, x) as usize;
+        if is_further(m, w, f, most) {
+            return f;
+        }
     }
     crate::next_of(w) as usize
 }
@@ -97,7 +99,7 @@ fn before(m: &[u64], fingers: &[u64], l: usize) -> usize
     e
 }
 
-// The first sibling behind the node l that has a finger, or 0. As one in sixteen has, a hundred steps are enough.
+// The first sibling behind the node l that has a finger, or 0. As one in eight has, a hundred steps are enough.
 fn behind(m: &[u64], l: usize) -> usize
     requires { ⌜ length (now m) ≡ 4681 ⌝ }
     requires { ⌜ l ≤ 4608 ⌝ }

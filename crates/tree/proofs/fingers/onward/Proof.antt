@@ -1,6 +1,5 @@
 -- The finger is followed where it leads further, else the next sibling comes
 use mathlib.Core.Logic.{inl, inr}
-use Rattle.tree.specs.Basics.{told-yes}
 use borrow.Author.Needs.{needs}
 use Rattle.tree.proofs.fingers.onward.Statement.{statement}
 use Rattle.tree.proofs.fingers.onward.Tie as tie
@@ -10,8 +9,10 @@ onward-spec =
     tie.close
     (tie.spec
     (λ c κs. search needs)
+    (λ c κs. search needs)
+    (λ c κs. search needs)
     (λ c. search needs)
     (λ c κs. search needs)
-    (λ c. inr (c .before .is-further .ensures (c .if1 .taken)))
+    (λ c. inr (c .before .is-further .ensures (c .if2 .taken)))
     (λ c κs. search needs)
     (λ c. inl (c .next-of .ensures)))
