@@ -38,12 +38,6 @@ with-fingers {ws} {ws₁} {ws₂} {k} {t} a e l = record {
   same = λ n. absurd (n refl);
 }
 
--- the fingers are written, and written again
-pub written : (ws p q : List ℕ) → length ws ≡ 11466 → length p ≡ length (take 1153 (drop 4681 ws)) → length q ≡ length (take 1153 (drop 4681 (putMid 4681 1153 ws p))) → Elsewhere ws (putMid 4681 1153 (putMid 4681 1153 ws p) q) 4681 1153
-written ws p q size lp lq = twice one (one-part 4681 1153 (putMid 4681 1153 ws p) q (omega (arith, one .long)) (long (putMid 4681 1153 ws p) q (one .long ∙ size) lq))
-  where
-    long : (ws p : List ℕ) → length ws ≡ 11466 → length p ≡ length (take 1153 (drop 4681 ws)) → length p ≡ 1153
-    long ws p size e = omega (arith, length-take 1153 (drop 4681 ws), length-drop 4681 ws)
-
-    one : Elsewhere ws (putMid 4681 1153 ws p) 4681 1153
-    one = one-part 4681 1153 ws p (omega arith) (long ws p size lp)
+-- the fingers are written
+pub written : (ws p : List ℕ) → length ws ≡ 11466 → length p ≡ length (take 1153 (drop 4681 ws)) → Elsewhere ws (putMid 4681 1153 ws p) 4681 1153
+written ws p size e = one-part 4681 1153 ws p (omega arith) (omega (arith, length-take 1153 (drop 4681 ws), length-drop 4681 ws))

@@ -55,10 +55,12 @@ fn put_fingers(m: &mut [u64], r: usize)
     if at == 0 {
         return;
     }
-    let before = f.before;
+    let near = f.near;
+    let far = f.far;
     let behind = f.behind;
     bits::put_field(&mut m[4681..5834], at, behind as u16);
-    bits::put_field(&mut m[4681..5834], before, at as u16);
+    bits::put_field(&mut m[4681..5834], near, at as u16);
+    bits::put_field(&mut m[4681..5834], far, at as u16);
 }
 
 // Removes the rule of a number, with the nodes that no other rule needs.

@@ -1,4 +1,5 @@
-// Fingers: a link to a sibling further on, for one sibling in eight, so that long lists of siblings are passed by leaps.
+// Fingers: a link to a sibling further on, so that long lists of siblings are passed by leaps. One sibling in eight has one, to
+// the next that has, and one in 64 has one to the next of the 64.
 //
 // They stand in 1,153 words of their own, the finger of link l as field l. A finger is a hint: who follows one looks first
 // where it leads. So the check doesn't read them, removing a rule leaves them, and a wrong one costs time and never an answer.
@@ -12,6 +13,11 @@ ghost use Rattle.tree.specs.Promises.{Further, Onward};
 // Has a node with this cell a finger? Names are numbered one after the other, so those that have are spread evenly.
 fn has_finger(cell: u64) -> bool {
     cell % 8 == 0
+}
+
+// Has it a far one?
+fn has_far(cell: u64) -> bool {
+    cell % 64 == 0
 }
 
 // Does the link f lead to a sibling further on than the node with the word w, with a cell of `most` at the most?
@@ -54,31 +60,43 @@ pub fn onward(m: &[u64], fingers: &[u64], x: usize, w: u64, most: u64) -> usize
     crate::next_of(w) as usize
 }
 
-// The node x with the word v, if it has a finger, or else the one before it that has.
-fn latest(v: u64, x: usize, e: usize) -> usize
+// Siblings with fingers before a place: the last that has a far one, and the last behind it that has a near one; or 0.
+pub struct Passed {
+    pub near: usize,
+    pub far: usize,
+}
+
+// The same one node further, which is x and has the cell c.
+fn one_more(e: Passed, x: usize, c: u64) -> Passed
+    requires { ⌜ (e .near ≤ 4608) × (e .far ≤ 4608) ⌝ }
     requires { ⌜ x ≤ 4608 ⌝ }
-    requires { ⌜ e ≤ 4608 ⌝ }
-    ensures { λ r. ⌜ r ≤ 4608 ⌝ }
+    ensures { λ r. ⌜ (r .near ≤ 4608) × (r .far ≤ 4608) ⌝ }
 {
-    if has_finger(crate::cell_of(v)) {
-        return x;
+    if has_far(c) {
+        return Passed { near: 0, far: x };
+    }
+    if has_finger(c) {
+        return Passed {
+            near: x,
+            far: e.far,
+        };
     }
     e
 }
 
-// The last sibling before the node l that has a finger, or 0. No list has more than 4,608 siblings.
-fn before(m: &[u64], fingers: &[u64], l: usize) -> usize
+// Those before the node l. No list has more than 4,608 siblings.
+fn before(m: &[u64], fingers: &[u64], l: usize) -> Passed
     requires { ⌜ length (now m) ≡ 4681 ⌝ }
     requires { ⌜ length (now fingers) ≡ 1153 ⌝ }
     requires { ⌜ l ≤ 4608 ⌝ }
-    ensures { λ r. ⌜ r ≤ 4608 ⌝ }
+    ensures { λ r. ⌜ (r .near ≤ 4608) × (r .far ≤ 4608) ⌝ }
 {
     let w = m[72 + l];
     let p = crate::parent_of(w) as usize;
+    let mut e = Passed { near: 0, far: 0 };
     if 4608 < p {
-        return 0;
+        return e;
     }
-    let mut e: usize = 0;
     let mut x = crate::first_of(m[72 + p]) as usize;
     let mut steps: usize = 0;
     while steps < 4608 {
@@ -89,25 +107,28 @@ fn before(m: &[u64], fingers: &[u64], l: usize) -> usize
             return e;
         }
         let v = m[72 + x];
-        if crate::cell_of(w) <= crate::cell_of(v) {
+        let c = crate::cell_of(v);
+        if crate::cell_of(w) <= c {
             return e;
         }
-        e = latest(v, x, e);
+        e = one_more(e, x, c);
         x = onward(m, fingers, x, v, crate::cell_of(w));
         steps += 1;
     }
     e
 }
 
-// The first sibling behind the node l that has a finger, or 0. As one in eight has, a hundred steps are enough.
-fn behind(m: &[u64], l: usize) -> usize
+// Where the finger of the node l leads, which has the cell c: the next sibling that has one, or a far one if l has. No list has
+// more than 512 siblings with rules below them.
+fn behind(m: &[u64], l: usize, c: u64) -> usize
     requires { ⌜ length (now m) ≡ 4681 ⌝ }
     requires { ⌜ l ≤ 4608 ⌝ }
     ensures { λ r. ⌜ r ≤ 4608 ⌝ }
 {
+    let far = has_far(c);
     let mut x = crate::next_of(m[72 + l]) as usize;
     let mut steps: usize = 0;
-    while steps < 100 {
+    while steps < 512 {
         if x == 0 {
             return 0;
         }
@@ -115,13 +136,21 @@ fn behind(m: &[u64], l: usize) -> usize
             return 0;
         }
         let v = m[72 + x];
-        if has_finger(crate::cell_of(v)) {
+        if ends(far, crate::cell_of(v)) {
             return x;
         }
         x = crate::next_of(v) as usize;
         steps += 1;
     }
     0
+}
+
+// Does a finger, far or near, lead to a node with the cell c?
+fn ends(far: bool, c: u64) -> bool {
+    if far {
+        return has_far(c);
+    }
+    has_finger(c)
 }
 
 // Going up from the node `last`, past those that are the only child: the node that came in beside others.
@@ -153,10 +182,11 @@ fn highest(m: &[u64], last: usize) -> usize
     l
 }
 
-// Two fingers to put: that of the node `at`, to `behind`, and that of `before`, to it. Without a node they are those of the
-// root, which nobody follows.
+// Fingers to put: that of the node `at`, to `behind`, and those of `near` and `far`, to it. Where there is no node they are the
+// root's, which nobody follows.
 pub struct Fingers {
-    pub before: usize,
+    pub near: usize,
+    pub far: usize,
     pub at: usize,
     pub behind: usize,
 }
@@ -167,19 +197,32 @@ pub fn fingers_for(m: &[u64], fingers: &[u64], last: usize) -> Fingers
     requires { ⌜ length (now m) ≡ 4681 ⌝ }
     requires { ⌜ length (now fingers) ≡ 1153 ⌝ }
     requires { ⌜ last ≤ 4608 ⌝ }
-    ensures { λ r. ⌜ ((r .before ≤ 4608) × (r .at ≤ 4608)) × (r .behind ≤ 4608) ⌝ }
+    ensures { λ r. ⌜ ((r .near ≤ 4608) × (r .far ≤ 4608)) × ((r .at ≤ 4608) × (r .behind ≤ 4608)) ⌝ }
 {
-    let l = highest(m, last);
-    if has_finger(crate::cell_of(m[72 + l])) {
+    let at = highest(m, last);
+    let c = crate::cell_of(m[72 + at]);
+    if !has_finger(c) {
         return Fingers {
-            before: before(m, fingers, l),
-            at: l,
-            behind: behind(m, l),
+            near: 0,
+            far: 0,
+            at: 0,
+            behind: 0,
+        };
+    }
+    let behind = behind(m, at, c);
+    let e = before(m, fingers, at);
+    if has_far(c) {
+        return Fingers {
+            near: e.near,
+            far: e.far,
+            at,
+            behind,
         };
     }
     Fingers {
-        before: 0,
-        at: 0,
-        behind: 0,
+        near: e.near,
+        far: 0,
+        at,
+        behind,
     }
 }

@@ -1,11 +1,11 @@
--- Each step is at a link of the memory, and so is the node kept
+-- Each step is at a link of the memory, and so are the nodes kept
 use Prim.Native.Nat.{_-_, _≤_}
 use borrow.Author.Needs.{needs}
 use Rattle.tree.proofs.fingers.before.Statement.{statement}
 use Rattle.tree.proofs.fingers.before.Tie as tie
 
 abbrev Inv-loop : tie.InvT-loop
-Inv-loop m fingers l w p e₀ x₀ steps₀ e x steps = e ≤ 4608
+Inv-loop m fingers l w p e₀ x₀ steps₀ e x steps = (e .near ≤ 4608) × (e .far ≤ 4608)
 
 abbrev μ-loop : tie.MeasureT-loop
 μ-loop m fingers l w p e₀ x₀ steps₀ e x steps = 4608 - steps
