@@ -1,5 +1,5 @@
 -- A set of numbers below 4,096 in 65 words: bit n of the first 64 for the number n, and behind them a head, whose bit q says that word q counts
-use mathlib.Core.Path.{_≡_, sym, ap, _∙_}
+use mathlib.Core.Path.{_≡_, ap}
 use mathlib.Core.List.{List}
 use mathlib.Core.Bool.{Bool, true, false, _&&_}
 use Prim.Native.Nat.{ℕ, _+_, _/_, _≤_, _<_}

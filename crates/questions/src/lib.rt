@@ -229,14 +229,9 @@ pub fn turn(
         };
     }
     let w = m[72 + x];
-    let t = decide(
-        fills_question,
-        fills_rule,
-        question,
-        w,
-        p.skip as usize,
-        p.place as usize,
-    );
+    let skip = p.skip as usize;
+    let place = p.place as usize;
+    let t = decide(fills_question, fills_rule, question, w, skip, place);
     if t.listed {
         bits::numbers::put(marks, tree::cell_of(w) as usize);
         return place_points(w, p, t, depth);
