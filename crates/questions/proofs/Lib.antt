@@ -6,5 +6,6 @@ pub mod Deciding
 pub mod Lending
 pub mod Searching
 pub mod Trying
+pub mod Shrinking
 pub mod Turning
 pub mod Writing

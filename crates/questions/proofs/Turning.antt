@@ -19,7 +19,7 @@ use Rattle.book.specs.Promises.{IsTerm}
 use Rattle.questions.specs.declared.Point.{Point}
 use Rattle.questions.specs.Walk.{Walk, reading, listed, good}
 use Rattle.questions.specs.declared.Points.{Points}
-use Rattle.questions.specs.Promises.{walkAfter, Turned, Searched, Rooted, wordAt, besideOf, Skips, stay, skip-on, Tryable, Stood, Ended, Answered, Passed, Deeper, Closed, stays, gone, moves, Became}
+use Rattle.questions.specs.Promises.{walkAfter, Turned, Searched, Rooted, wordAt, besideOf, Skips, stay, skip-on, Tryable, Stood, Ended, Answered, Passed, Deeper, Closed, stays, gone, moves, Became, Along, begins, goes-on, Steady, Went}
 use Rattle.questions.proofs.Trying.{none-below}
 use Rattle.questions.proofs.Searching.{Book, Searching, left, linkAt, link-here, starts, aside, aside-left, drops, drops-less, stands, node-low, passes-by, marks-it, number-low, beside-less, goes-down, down-less, closes, closes-less, searched}
 
@@ -32,9 +32,9 @@ abbrev pub Loop : Bool → Bool → (ws q marks₀ marks : List ℕ) → List Po
 Loop fq fr ws q marks₀ marks l depth = (b : Book ws q) × Searching fq fr ws q b marks₀ marks l depth
 
 -- the loop begins at the root
-pub begins : (fq fr : Bool) (ws q marks : List ℕ) (l : List Point) → Passing ws → IsTerm q → NumberSet marks → Rooted ws l → Loop fq fr ws q marks marks l 1
+pub starts-out : (fq fr : Bool) (ws q marks : List ℕ) (l : List Point) → Passing ws → IsTerm q → NumberSet marks → Rooted ws l → Loop fq fr ws q marks marks l 1
 unfolding linkAt
-begins fq fr ws q marks l pass whole lm r =
+starts-out fq fr ws q marks l pass whole lm r =
     let b : Book ws q = record { passing = pass; whole = whole; words = r .root .words } in
     (b, starts fq fr ws q b marks l lm (r .long) (r .root .link ∙ ap firstOf (sym (getD-take 4681 ws 72 0 (omega arith)))) (r .root .skip) (r .root .place))
 
@@ -335,8 +335,8 @@ module _ (fq fr : Bool) (ws q marks₀ marks : List ℕ) (l : List Point) (depth
   at-skipped : (x : Point) → pointAt (set l (depth - 1) x) (depth - 1) ≡ x
   at-skipped x = at-set l (depth - 1) x (inside fq fr ws q marks₀ marks l depth i h)
 
-  pub stood : Stood fq fr ws q marks (pointAt l (depth - 1)) depth
-  stood = record {
+  tries-once : Stood fq fr ws q marks (pointAt l (depth - 1)) depth
+  tries-once = record {
     threaded = record { passing = i .0 .passing; used = λ n e. used-at n e };
     map = i .1 .map;
     stands = stand fq fr ws q marks₀ marks l depth i h;
@@ -349,11 +349,65 @@ module _ (fq fr : Bool) (ws q marks₀ marks : List ℕ) (l : List Point) (depth
       used-at : (n : ℕ) → pointAt l (depth - 1) .link ≡ suc n → Used (view ws .tree) n
       used-at n e = i .1 .used (depth - 1) (omega arith) n (link-is fq fr ws q marks₀ marks l depth i h ∙ e)
 
-  pub turned : (marks′ : List ℕ) (r : Points) → Became fq fr ws q marks marks′ (pointAt l (depth - 1)) depth r → Again fq fr ws q marks₀ l depth marks′ (set (set l (depth - 1) (r .beside)) depth (r .below)) (r .depth)
-  turned marks′ r b =
+  tried-once : (marks′ : List ℕ) (r : Points) → Became fq fr ws q marks marks′ (pointAt l (depth - 1)) depth r → Again fq fr ws q marks₀ l depth marks′ (set (set l (depth - 1) (r .beside)) depth (r .below)) (r .depth)
+  tried-once marks′ r b =
       let s = skipped fq fr ws q marks₀ marks l depth i h (b .skips) in
       let t = subst (λ (p : Point). Ended marks marks′ p depth (b .plain) ⊎ (Answered fq fr ws q marks marks′ p depth (b .plain) ⊎ (Passed fq fr ws q marks marks′ p depth (b .plain) ⊎ Deeper fq fr ws q marks marks′ p depth (b .plain)))) (sym (at-skipped (b .to))) (b .tries) in
       let a = tried-here fq fr ws q marks₀ marks (set l (depth - 1) (b .to)) depth (s .loop) h marks′ (b .plain) t in
       closing fq fr ws q marks₀ l depth (let d = i .1 .deep in omega (arith, i .1 .long)) h marks′ (b .plain) r
       (subst (λ (z : List Point). Again fq fr ws q marks₀ l depth marks′ (set z depth (b .plain .below)) (b .plain .depth)) (set-twice l (depth - 1) (b .to) (b .plain .beside))
       (record { again = a .again; fewer = (let x = a .fewer in let y = s .less in omega arith) })) (b .closed)
+
+-- ---- turn after turn at one level
+
+-- The loop stands as well at a point to which the search comes, with no more left.
+record Come (fq fr : Bool) (ws q marks₀ : List ℕ) (l : List Point) (depth : ℕ) (marks : List ℕ) (x : Point) : Type 0 where
+  loop : Loop fq fr ws q marks₀ marks (set l (depth - 1) x) depth
+  less : left fq fr ws (set l (depth - 1) x) depth ≤ left fq fr ws l depth
+
+module _ (fq fr : Bool) (ws q marks₀ marks : List ℕ) (l : List Point) (depth : ℕ) (i : Loop fq fr ws q marks₀ marks l depth) (h : 0 < depth) where
+  within-list : depth < length l
+  within-list = let d = i .1 .deep in omega (arith, i .1 .long)
+
+  -- one turn from the point x that stands in the place, when the loop stands there
+  module _ (marks₁ : List ℕ) (x : Point) (c : Come fq fr ws q marks₀ l depth marks₁ x) where
+    here : pointAt (set l (depth - 1) x) (depth - 1) ≡ x
+    here = at-set l (depth - 1) x (omega (arith, within-list))
+
+    again-from : (marks₂ : List ℕ) (r : Points) → Became fq fr ws q marks₁ marks₂ x depth r → Again fq fr ws q marks₀ l depth marks₂ (set (set l (depth - 1) (r .beside)) depth (r .below)) (r .depth)
+    again-from marks₂ r b =
+        let a = tried-once fq fr ws q marks₀ marks₁ (set l (depth - 1) x) depth (c .loop) h marks₂ r (subst (λ (p : Point). Became fq fr ws q marks₁ marks₂ p depth r) (sym here) b) in
+        subst (λ (z : List Point). Again fq fr ws q marks₀ l depth marks₂ (set z depth (r .below)) (r .depth)) (set-twice l (depth - 1) x (r .beside))
+        (record { again = a .again; fewer = (let y = a .fewer in let z = c .less in omega arith) })
+
+    stood-at : Stood fq fr ws q marks₁ x depth
+    stood-at = subst (λ (p : Point). Stood fq fr ws q marks₁ p depth) here (tries-once fq fr ws q marks₀ marks₁ (set l (depth - 1) x) depth (c .loop) h)
+
+  -- the place above the last is none of the list's
+  restore : (b p : Point) → set (set (set l (depth - 1) b) depth p) depth (pointAt (set l (depth - 1) b) depth) ≡ set l (depth - 1) b
+  restore b p = set-twice (set l (depth - 1) b) depth p _ ∙ set-same (set l (depth - 1) b) depth (omega (arith, within-list, length-set l (depth - 1) b))
+
+  come-on : (marks₂ : List ℕ) (r : Points) → Again fq fr ws q marks₀ l depth marks₂ (set (set l (depth - 1) (r .beside)) depth (r .below)) (r .depth) → r .depth ≡ depth → Come fq fr ws q marks₀ l depth marks₂ (r .beside)
+  come-on marks₂ r a e = record {
+    loop = (s .again .0, subst (λ (z : List Point). Searching fq fr ws q (s .again .0) marks₀ marks₂ z depth) (restore (r .beside) (r .below)) (aside fq fr ws q (s .again .0) _ depth depth (pointAt (set l (depth - 1) (r .beside)) depth) (omega arith) (s .again .1)));
+    less =
+        let y = s .fewer in
+        let z = aside-left fq fr ws q (s .again .0) (set (set l (depth - 1) (r .beside)) depth (r .below)) depth depth (pointAt (set l (depth - 1) (r .beside)) depth) (omega arith) in
+        let v = ap (λ (z : List Point). left fq fr ws z depth) (restore (r .beside) (r .below)) in omega arith;
+  }
+    where
+      s : Again fq fr ws q marks₀ l depth marks₂ (set (set l (depth - 1) (r .beside)) depth (r .below)) depth
+      s = subst (Again fq fr ws q marks₀ l depth marks₂ (set (set l (depth - 1) (r .beside)) depth (r .below))) e a
+
+  comes : {marks′ : List ℕ} {x : Point} → Along fq fr ws q depth marks (pointAt l (depth - 1)) marks′ x → Come fq fr ws q marks₀ l depth marks′ x
+  comes begins = record {
+    loop = subst (λ (z : List Point). Loop fq fr ws q marks₀ marks z depth) (sym (set-same l (depth - 1) (omega (arith, within-list)))) i;
+    less = subst (λ (z : List Point). left fq fr ws z depth ≤ left fq fr ws l depth) (sym (set-same l (depth - 1) (omega (arith, within-list)))) (omega arith);
+  }
+  comes (goes-on {marks₁} {marks₂} {p₁} {r} a b e) = come-on marks₂ r (again-from marks₁ p₁ (comes a) marks₂ r b) e
+
+  pub stood : Steady fq fr ws q marks (pointAt l (depth - 1)) depth
+  stood = record { each = λ marks′ x a. stood-at marks′ x (comes a) }
+
+  pub turned : (marks′ : List ℕ) (r : Points) → Went fq fr ws q marks marks′ (pointAt l (depth - 1)) depth r → Again fq fr ws q marks₀ l depth marks′ (set (set l (depth - 1) (r .beside)) depth (r .below)) (r .depth)
+  turned marks′ r g = again-from (g .before) (g .last) (comes (g .along)) marks′ r (g .became)

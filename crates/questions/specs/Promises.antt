@@ -153,6 +153,22 @@ pub record Became (fq fr : Bool) (ws question marks marks′ : List ℕ) (p : Po
   pub tries : Ended marks marks′ to depth plain ⊎ (Answered fq fr ws question marks marks′ to depth plain ⊎ (Passed fq fr ws question marks marks′ to depth plain ⊎ Deeper fq fr ws question marks marks′ to depth plain))
   pub closed : Closed depth plain r
 
+-- Point after point is tried in the place of p, as long as none stands above and the place is not given up: with which marks the search comes to which point.
+pub data Along (fq fr : Bool) (ws question : List ℕ) (depth : ℕ) (marks : List ℕ) (p : Point) : List ℕ → Point → Type 0 where
+  begins : Along fq fr ws question depth marks p marks p
+  goes-on : {marks₁ marks₂ : List ℕ} {p₁ : Point} {r : Points} → Along fq fr ws question depth marks p marks₁ p₁ → Became fq fr ws question marks₁ marks₂ p₁ depth r → r .depth ≡ depth → Along fq fr ws question depth marks p marks₂ (r .beside)
+
+-- Each of them can be tried.
+pub record Steady (fq fr : Bool) (ws question marks : List ℕ) (p : Point) (depth : ℕ) : Type 0 where
+  pub each : (marks′ : List ℕ) (p′ : Point) → Along fq fr ws question depth marks p marks′ p′ → Stood fq fr ws question marks′ p′ depth
+
+-- The last of them was tried.
+pub record Went (fq fr : Bool) (ws question marks marks′ : List ℕ) (p : Point) (depth : ℕ) (r : Points) : Type 0 where
+  pub before : List ℕ
+  pub last : Point
+  pub along : Along fq fr ws question depth marks p before last
+  pub became : Became fq fr ws question before marks′ last depth r
+
 -- The point that the search begins with: the tree's first node, and the machine before all cells.
 pub record IsRoot (ws : List ℕ) (p : Point) : Type 0 where
   pub words : (i : ℕ) → getD ws i 0 < 2 ^ 64

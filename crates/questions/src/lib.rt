@@ -11,7 +11,7 @@ ghost use Rattle.book.specs.Memory.{Passing};
 ghost use Rattle.book.specs.Promises.{IsTerm};
 ghost use Rattle.bits.specs.Numbers.{NumberSet, has};
 ghost use Rattle.questions.specs.Asking.{numbers};
-ghost use Rattle.questions.specs.Promises.{Turned, Stacked, Reach, Sought, Decisive, Skips, moved, Threaded, Stood, Became, IsRoot, Rooted, Searched, Lists};
+ghost use Rattle.questions.specs.Promises.{Turned, Stacked, Reach, Sought, Decisive, Skips, moved, Threaded, Stood, Became, Steady, Went, IsRoot, Rooted, Searched, Lists};
 use term::machine;
 
 // A point still to be tried: a link, the subterms of a rule still to skip there, and the place in the question. It is small, since
@@ -206,9 +206,9 @@ fn seek(m: &[u64], fills_question: bool, fills_rule: bool, question: &[u16], p: 
     sibling(m, c, c, link)
 }
 
-// A turn of the search at the point p, the last of `depth`: siblings at which the machine fails are skipped; without a node the
-// point goes; else one load, one step of the machine, and the mark of a rule that is listed.
-pub fn turn(
+// Tries the point p, the last of `depth`: siblings at which the machine fails are skipped; without a node the point goes; else
+// one load, one step of the machine, and the mark of a rule that is listed.
+fn try_point(
     m: &[u64],
     fills_question: bool,
     fills_rule: bool,
@@ -237,6 +237,28 @@ pub fn turn(
         return place_points(w, p, t, depth);
     }
     place_points(w, p, t, depth)
+}
+
+// A turn of the search: the point p, the last of `depth`, is tried, and then each that takes its place, until one more stands or
+// one less. Till then the list need not be touched.
+pub fn turn(
+    m: &[u64],
+    fills_question: bool,
+    fills_rule: bool,
+    question: &[u16],
+    marks: &mut [u64],
+    p: Point,
+    depth: usize,
+) -> Points
+    requires { ⌜ Steady «fills_question» «fills_rule» (now m) (now question) (now marks) p depth ⌝ }
+    ensures { λ r. ⌜ Went «fills_question» «fills_rule» (now (m .entry)) (now (question .entry)) (now (marks .entry)) (now (marks .exit)) p depth r ⌝ }
+{
+    let mut t = try_point(m, fills_question, fills_rule, question, marks, p, depth);
+    while t.depth == depth {
+        let next = t.beside;
+        t = try_point(m, fills_question, fills_rule, question, marks, next, depth);
+    }
+    t
 }
 
 // The point that the search begins with.

@@ -53,9 +53,9 @@ use Rattle.book.specs.Memory.{Passing}
 use Rattle.book.specs.Promises.{IsTerm}
 use Rattle.questions.specs.declared.Point.{Point}
 use Rattle.questions.specs.declared.Points.{Points}
-use Rattle.questions.specs.Promises.{Stood, Became, Rooted, Searched}
+use Rattle.questions.specs.Promises.{Steady, Went, Rooted, Searched}
 use Rattle.questions.proofs.Searching.{left}
-use Rattle.questions.proofs.Turning.{Loop, ends, stood, turned, begins}
+use Rattle.questions.proofs.Turning.{Loop, ends, stood, turned, starts-out}
 use Rattle.questions.proofs.Lending.{Claim, lend-on, take-back}
 use Rattle.questions.proofs.Point as T
 use Rattle.questions.proofs.Point.Laws as T′
@@ -196,7 +196,7 @@ module _ {M : Type 1} (𝓤 : URA M) (H : Heap 𝓤) (A : Atoms 𝓤) (W : Given
     abbrev Towns : Fml
     Towns = owns (ShrSlice (named 0) κ₀ u64 ∷ bool ∷ bool ∷ ShrSlice (named 1) κ₁ u16 ∷ MutSlice (named 2) (ν ∷ []) u64 ∷ R ∷ usize ∷ []) targs tvals
 
-    asked : Stood fq fr (m .now) (qu .now) ns p depth → ent 𝓤 (sep 𝓤 (sep 𝓤 (A .lft κ₀ q₀) (sep 𝓤 (A .lft κ₁ q₁) (sep 𝓤 (A .lft (ν ∷ []) fullShare) (sem 𝓤 H A ftrue)))) (sem 𝓤 H A Towns)) (Turns 𝓤 H A at-mem run .pre to)
+    asked : Steady fq fr (m .now) (qu .now) ns p depth → ent 𝓤 (sep 𝓤 (sep 𝓤 (A .lft κ₀ q₀) (sep 𝓤 (A .lft κ₁ q₁) (sep 𝓤 (A .lft (ν ∷ []) fullShare) (sem 𝓤 H A ftrue)))) (sem 𝓤 H A Towns)) (Turns 𝓤 H A at-mem run .pre to)
     asked s = qed W ((‵ (flft κ₀ q₀) ⊛ ‵ (flft κ₁ q₁) ⊛ ‵ (flft (ν ∷ []) fullShare) ⊛ ‵ ftrue) ∷ ‵ Towns ∷ []) ∵ says ! s $ frame ! $ done !
 
   -- what is known of the fields of what `turn` gives
@@ -246,7 +246,7 @@ module _ {M : Type 1} (𝓤 : URA M) (H : Heap 𝓤) (A : Atoms 𝓤) (W : Given
 
       -- a turn
       more : 0 < depth → depth ≤ 34 → length zs ≡ 35
-          → ((ns′ : List ℕ) (r : Points) → length ns′ ≡ length ns → Became fq fr (m .now) (qu .now) ns ns′ p depth r → ent 𝓤 (⋆ 𝓤 H A (At ns′ (set (set zs k (r .beside)) depth (r .below)) (r .depth))) X)
+          → ((ns′ : List ℕ) (r : Points) → length ns′ ≡ length ns → Went fq fr (m .now) (qu .now) ns ns′ p depth r → ent 𝓤 (⋆ 𝓤 H A (At ns′ (set (set zs k (r .beside)) depth (r .below)) (r .depth))) X)
           → ent 𝓤 (⋆ 𝓤 H A (At ns zs depth)) (Wp 𝓤 H C Λ En round (afterTurn 𝓤 H X Left))
       unfolding afterTurn
       more pos deep long go =
@@ -287,8 +287,8 @@ module _ {M : Type 1} (𝓤 : URA M) (H : Heap 𝓤) (A : Atoms 𝓤) (W : Given
           (and-then ! (load ! (from ! (stop !)) (look ! 17 refl)) (and-then ! (load ! (from ! (stop !)) (look ! 18 refl)) (and-then ! (load ! (from ! (stop !)) (look ! 19 refl)) (and-then ! (load ! (from ! (stop !)) (look ! 20 refl)) (and-then ! (load ! (from ! (stop !)) (look ! 14 refl))
           (and-then ! (load ! (from ! (stop !)) (look ! 7 refl)) (and-then ! (load ! (from ! (stop !)) (look ! 5 refl)) (no-more !)))))))) (λ w.
           use1 W (later (some (λ (r : Points). ((‵ (flft κ₀ q₀) ⊛ ‵ (flft κ₁ q₁) ⊛ ‵ (flft (ν ∷ []) fullShare) ⊛ ‵ ftrue) ⊛ ‵ (P.the-row .own r (w ∷ []))) ⊛ raw (ensured 𝓤 H A turn.ended (turn.clauses 𝓤 H A at-mem run) (κ₀, (κ₁, (ν ∷ [], tt))) (targs ns p depth ν δ) tt r)))) (id⊢ 𝓤 _) $ await ! tt $ pick ! (λ r.
-          split ! $ move ! (1 ∷ []) $ use1 W (some (λ (fs : Unit {0} × (Unit {0} × (Unit {0} × (Unit {0} × (List ℕ × (Unit {0} × (Unit {0} × Unit {0}))))))). ‵ (lasts turn.ended (κ₀, (κ₁, (ν ∷ [], tt))) (targs ns p depth ν δ) fs) ⊛ raw (fact 𝓤 (Became fq fr (m .now) (qu .now) ns (fs .1 .1 .1 .1 .0) p depth r)))) (id⊢ 𝓤 _) $ pick ! (λ fs.
-          split ! $ move ! (1 ∷ []) $ heard ! (Became fq fr (m .now) (qu .now) ns (fs .1 .1 .1 .1 .0) p depth r) (λ e.
+          split ! $ move ! (1 ∷ []) $ use1 W (some (λ (fs : Unit {0} × (Unit {0} × (Unit {0} × (Unit {0} × (List ℕ × (Unit {0} × (Unit {0} × Unit {0}))))))). ‵ (lasts turn.ended (κ₀, (κ₁, (ν ∷ [], tt))) (targs ns p depth ν δ) fs) ⊛ raw (fact 𝓤 (Went fq fr (m .now) (qu .now) ns (fs .1 .1 .1 .1 .0) p depth r)))) (id⊢ 𝓤 _) $ pick ! (λ fs.
+          split ! $ move ! (1 ∷ []) $ heard ! (Went fq fr (m .now) (qu .now) ns (fs .1 .1 .1 .1 .0) p depth r) (λ e.
           fsplit ! $ drop ! $ fsplit ! $ drop ! $ fsplit ! $ drop ! $ fsplit ! $ drop ! $ fsplit ! $ fsplit ! $ move ! (1 ∷ []) $ feqL ! (λ len. move ! (1 ∷ []) $ drop ! $
           -- [the last marks; the tokens and the result; question; m; kept; row; _7; …]
           move ! (1 ∷ []) $ split ! $ move ! (1 ∷ []) $ peeks ! P.the-row (Is P.the-row) (shows 𝓤 H A P.the-row) r (w ∷ []) (λ is.
@@ -419,7 +419,7 @@ module _ {M : Type 1} (𝓤 : URA M) (H : Heap 𝓤) (A : Atoms 𝓤) (W : Given
       walk 𝓤 H A W at-mem run (κs .0) (κs .1 .0) (κs .1 .1 .0) (κs .1 .1 .1 .0) (qs .0) (qs .1 .0) (qs .1 .1 .0) (qs .1 .1 .1 .0) (a .0) (a .1 .0) (a .1 .1 .0) (a .1 .1 .1 .0)
       (a .1 .1 .1 .1 .0 .ptr .0) (a .1 .1 .1 .1 .0 .ptr .1) (a .1 .1 .1 .1 .0 .name) (a .1 .1 .1 .1 .0 .now) (a .1 .1 .1 .1 .1 .0 .ptr .0) (a .1 .1 .1 .1 .1 .0 .ptr .1) (a .1 .1 .1 .1 .1 .0 .name) (a .1 .1 .1 .1 .1 .0 .now)
       (are .0 .0 .1) (are .1 .1 .1 .0 .0 .1) (are .1 .1 .1 .1 .0 .0 .1) (are .1 .1 .1 .1 .1 .0 .0 .1)
-      (begins (a .1 .0) (a .1 .1 .0) (a .0 .now) (a .1 .1 .1 .0 .now) (a .1 .1 .1 .1 .0 .now) (a .1 .1 .1 .1 .1 .0 .now) (pre .0) (pre .1 .0) (pre .1 .1 .0) (pre .1 .1 .1)) 𝓣 known))
+      (starts-out (a .1 .0) (a .1 .1 .0) (a .0 .now) (a .1 .1 .1 .0 .now) (a .1 .1 .1 .1 .0 .now) (a .1 .1 .1 .1 .1 .0 .now) (pre .0) (pre .1 .0) (pre .1 .1 .0) (pre .1 .1 .1)) 𝓣 known))
 
 search-meets : {M : Type 1} (𝓤 : URA M) (H : Heap 𝓤) (A : Atoms 𝓤) → Given 𝓤 H A → (at-mem : Memory → SProp 𝓤) (run : Routine → Fun 𝓤) (𝓣 : Tables 𝓤 H) → Triple 𝓤 (𝓣 .C #questions·turn) (Turns 𝓤 H A at-mem run)
     → Meets 𝓤 H A search′.signature (WpFn 𝓤 H (𝓣 .C) (𝓣 .Λ) code.function) (search′.spec 𝓤 H A at-mem run)

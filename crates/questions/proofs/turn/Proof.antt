@@ -1,81 +1,65 @@
--- Each way out of a turn is one of the four that its promise names, at the point to which it has skipped.
+-- What led to the point that was tried first leads to each that takes its place.
 use borrow.Author.Needs.{needs}
-use mathlib.Core.Path.{_≡_, refl, sym, _∙_, subst}
-use mathlib.Core.Logic.{inl, inr}
-use Prim.Native.Nat.{ℕ, _<_}
-use native.Mathlib.Omega.{arith}
+use mathlib.Core.Path.{_≡_, refl, _∙_}
+use mathlib.Core.List.{List}
+use Prim.Native.Nat.{ℕ}
 use lib.ListN.{length}
-use Rattle.bits.specs.Numbers.{Puts}
 use Rattle.questions.specs.declared.Point.{Point}
-use Rattle.questions.specs.Promises.{Skips, Tryable, moved, stays}
-use Rattle.questions.proofs.Trying.{placed-at, lists-it, goes-by}
+use Rattle.questions.specs.Promises.{Stood, Along, begins, goes-on, Went}
+use Rattle.questions.proofs.Shrinking.{remains, remains-less}
 use Rattle.questions.proofs.turn.Statement.{statement}
 use Rattle.questions.proofs.turn.Tie as tie
 
-module _ (k : tie.After-seek) where
-  abbrev to : Point
-  to = moved (k .before .before .before .before .args .p) (k .seek .result)
+abbrev Inv-loop : tie.InvT-loop
+Inv-loop m fills-question fills-rule question marks₀ depth t₀ marks t = (length marks ≡ length marks₀) × ((before : List ℕ) (p : Point) → Went fills-question fills-rule m question before marks₀ p depth t₀ → Went fills-question fills-rule m question before marks p depth t)
 
-  skips : Skips (k .before .before .before .before .args .fills-question) (k .before .before .before .before .args .fills-rule) (k .before .before .before .before .args .m .now) (k .before .before .before .before .args .question .now) (k .before .before .before .before .args .p) to
-  skips = k .seek .ensures
+abbrev μ-loop : tie.MeasureT-loop
+μ-loop m fills-question fills-rule question marks₀ depth t₀ marks t = remains m depth t
 
-  tryable : Tryable (k .before .before .before .before .args .fills-question) (k .before .before .before .before .args .fills-rule) (k .before .before .before .before .args .m .now) (k .before .before .before .before .args .question .now) to
-  tryable = k .before .before .before .before .pre .each to skips
+-- the place in the code where the first point was tried
+abbrev first : tie.At-loop Inv-loop μ-loop → tie.After-try-point Inv-loop μ-loop
+first l = l .before .before .before
 
-  size : length (k .before .before .before .before .args .m .now) ≡ 11466
-  size = k .before .before .before .before .pre .threaded .passing .size
+abbrev start : tie.At-loop Inv-loop μ-loop → tie.Start Inv-loop μ-loop
+start l = first l .before .before .before .before .before
 
-returns : tie.Need-returns
-returns c = record { to = to (c .before); skips = skips (c .before); plain = _; tries = inl (record { none = c .if1 .taken; same = refl; less = refl }); closed = stays refl }
+-- all that was tried so far
+went : (l : tie.At-loop Inv-loop μ-loop) → Went (start l .args .fills-question) (start l .args .fills-rule) (start l .args .m .now) (start l .args .question .now) (start l .args .marks .now) (l .loop .marks) (start l .args .p) (start l .args .depth) (l .loop .t)
+went l = l .loop .inv .1 (start l .args .marks .now) (start l .args .p) (record { before = _; last = _; along = begins; became = first l .try-point .ensures })
 
-put-requires : tie.Need-put-requires
-put-requires c κs =
-    let k = c .before .before .before .before .before .before .before .before in
-    (k .before .before .before .before .pre .map, subst (λ (x : ℕ). x < 4096) (sym (c .cell-of .ensures)) (tryable k .number (c .before .before .before .before .before .before .before .if1 .left) (sym (c .before .before .before .decide .ensures .lists-is) ∙ c .before .before .if2 .taken)))
+-- one more
+on : (c : tie.Then1 Inv-loop μ-loop) → Along (start (c .before .before) .args .fills-question) (start (c .before .before) .args .fills-rule) (start (c .before .before) .args .m .now) (start (c .before .before) .args .question .now) (start (c .before .before) .args .depth) (start (c .before .before) .args .marks .now) (start (c .before .before) .args .p)
+    (c .before .before .loop .marks) (c .before .before .loop .t .beside)
+on c = let g = went (c .before .before) in goes-on (g .along) (g .became) (c .if1 .taken)
 
-returns-2 : tie.Need-returns-2
-returns-2 c =
-    let k = c .before .before .before .before .before .before .before .before .before .before .before .before in
-    let s = k .before .before .before .before .args in
-    let d = c .before .before .before .before .before .before .before in
-    record {
-      to = to k;
-      skips = skips k;
-      plain = c .place-points .ensures .plain;
-      closed = c .place-points .ensures .closed;
-      tries = inr (inl (lists-it (s .fills-question) (s .fills-rule) (s .m .now) (s .question .now) (s .marks .now) (to k) (s .depth) (c .before .before .before .before .before .before .before .before .before .before .before .if1 .left) _ _ _ _ (d .decide .ensures) _ (placed-at _ (s .p) (k .seek .result) _ _ _ _ _ (c .place-points .ensures .placed)) (c .before .before .before .before .before .before .if2 .taken) _
-          (subst (Puts (s .marks .now) (c .before .before .before .put .last .0)) (c .before .before .before .before .cell-of .ensures) (c .before .before .before .put .ensures))));
-    }
+stood : (c : tie.Then1 Inv-loop μ-loop) → Stood (start (c .before .before) .args .fills-question) (start (c .before .before) .args .fills-rule) (start (c .before .before) .args .m .now) (start (c .before .before) .args .question .now) (c .before .before .loop .marks) (c .before .before .loop .t .beside) (start (c .before .before) .args .depth)
+stood c = start (c .before .before) .pre .each _ _ (on c)
 
-returns-3 : tie.Need-returns-3
-returns-3 c =
-    let k = c .before .before .before .before .before .before .before in
-    let s = k .before .before .before .before .args in
-    record {
-      to = to k;
-      skips = skips k;
-      plain = c .place-points2 .ensures .plain;
-      closed = c .place-points2 .ensures .closed;
-      tries = inr (inr (goes-by (s .fills-question) (s .fills-rule) (s .m .now) (s .question .now) (s .marks .now) (to k) (s .depth) (c .before .before .before .before .before .before .if1 .left) _ _ _ _ (c .before .before .decide .ensures) _ (placed-at _ (s .p) (k .seek .result) _ _ _ _ _ (c .place-points2 .ensures .placed)) (c .before .if2 .left)));
-    }
+loop-less : tie.Need-loop-less Inv-loop μ-loop
+loop-less c =
+    let z = c .before .before in
+    let i = z .before .before .before in
+    let l = i .before .before in
+    let s = start l .args in
+    remains-less (s .fills-question) (s .fills-rule) (s .m .now) (s .question .now) (λ k. first l .before .before .before .before .shared-slice-known .given k .fits) _ _ (s .depth) (l .loop .t) (z .try-point2 .result) (i .if1 .taken) (stood i) (z .try-point2 .ensures)
+
+loop-again : tie.Need-loop-again Inv-loop μ-loop
+loop-again c =
+    let z = c .before .before in
+    let i = z .before .before .before in
+    let l = i .before .before in
+    (z .try-point2 .kept .1 .1 .1 .1 .0 ∙ l .loop .inv .0, λ before p g. let w = l .loop .inv .1 before p g in record { before = _; last = _; along = goes-on (w .along) (w .became) (i .if1 .taken); became = z .try-point2 .ensures })
 
 pub turn-spec : {M : Type 1} → statement M
 turn-spec =
     tie.close
     (tie.spec
-    (λ c κs. c .before .before .before .pre .threaded)
-    (λ c. let h = c .before .before .before .before .before .pre .some in omega arith)
-    returns
-    (λ c. let h = tryable (c .before) .within in omega arith)
-    (λ c. let h = tryable (c .before) .within in omega arith)
-    (λ c. let h = tryable (c .before .before) .within in omega (arith, size (c .before .before)))
-    (λ c. search needs)
-    (λ c. search needs)
-    (λ c κs. let s = c .before .before .before .before .before .before .before .before in (s .pre .stands, s .pre .few))
-    (λ c κs. search needs)
-    put-requires
-    (λ c κs. let p = c .before .before .before .before .before .before .before .before .before .before .before .before .before .before .before .pre in (p .some, p .deep))
-    (λ c. search needs)
-    returns-2
-    (λ c κs. let p = c .before .before .before .before .before .before .before .before .before .before .pre in (p .some, p .deep))
-    returns-3)
+    Inv-loop
+    μ-loop
+    (λ c κs. c .before .before .before .before .pre .each _ _ begins)
+    (λ c. (refl, λ before p g. g))
+    (λ c κs. stood (c .before .before))
+    loop-less
+    loop-again
+    (λ c. let l = c .before .before in l .loop .inv .0 ∙ first l .try-point .kept .1 .1 .1 .1 .0)
+    (λ c. went (c .before .before)))
