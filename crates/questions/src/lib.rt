@@ -253,7 +253,11 @@ pub fn turn(
     requires { ⌜ Steady «fills_question» «fills_rule» (now m) (now question) (now marks) p depth ⌝ }
     ensures { λ r. ⌜ Went «fills_question» «fills_rule» (now (m .entry)) (now (question .entry)) (now (marks .entry)) (now (marks .exit)) p depth r ⌝ }
 {
-    let mut t = try_point(m, fills_question, fills_rule, question, marks, p, depth);
+    let mut t = Points {
+        beside: p,
+        below: p,
+        depth,
+    };
     while t.depth == depth {
         let next = t.beside;
         t = try_point(m, fills_question, fills_rule, question, marks, next, depth);
