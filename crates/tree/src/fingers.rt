@@ -12,12 +12,12 @@ ghost use Rattle.tree.specs.Promises.{Further, Onward};
 
 // Has a node with this cell a finger? Names are numbered one after the other, so those that have are spread evenly.
 fn has_finger(cell: u64) -> bool {
-    cell % 8 == 0
+    cell % 4 == 0
 }
 
 // Has it a far one?
 fn has_far(cell: u64) -> bool {
-    cell % 64 == 0
+    cell % 32 == 0
 }
 
 // Does the link f lead to a sibling further on than the node with the word w, with a cell of `most` at the most?
