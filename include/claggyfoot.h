@@ -29,7 +29,7 @@ extern "C" {
 
 /* ---- Sizes and limits */
 
-#define CF_BOOK_WORDS 11466 /* words of 64 bits of a book; cf_book_words() answers the same */
+#define CF_BOOK_WORDS 12618 /* words of 64 bits of a book; cf_book_words() answers the same */
 #define CF_MOST_RULES 512   /* rules that a book holds at most, under numbers 0 to 4,095 */
 #define CF_MOST_NODES 4096  /* different non-empty beginnings of their blank forms, at most */
 #define CF_MOST_CELLS 32    /* cells of a term at most */

@@ -226,7 +226,7 @@ module _ (ws : List ℕ) (k : ℕ) (t : List ℕ) (p : Passing ws) where
               }
 
               -- the rule is taken
-              pub taken-now : (t₂ ws₂ ws₃ : List ℕ) (ws₁ : List ℕ) → TreeOnly ws ws₁ (shape t₁) → Hung (shape t₁) (shape t₂) l r k → TreeOnly ws₁ ws₂ (shape t₂) → Stores (view ws₂) (view ws₃) k r t → length ws₃ ≡ 11466 → Adds ws ws₃ k t rules.Taken
+              pub taken-now : (t₂ ws₂ ws₃ : List ℕ) (ws₁ : List ℕ) → TreeOnly ws ws₁ (shape t₁) → Hung (shape t₁) (shape t₂) l r k → TreeOnly ws₁ ws₂ (shape t₂) → Stores (view ws₂) (view ws₃) k r t → length ws₃ ≡ 12618 → Adds ws ws₃ k t rules.Taken
               taken-now t₂ ws₂ ws₃ ws₁ o₁ hung o₂ st size = record {
                 answer = sym judge-taken;
                 passes = record { size = size; right = added-right (view ws) (view ws₃) k r l t (shape t₁) low (p .right) added };

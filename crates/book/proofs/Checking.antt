@@ -59,7 +59,7 @@ module _ (ws map : List ℕ) (r : ℕ) (hr : r < 512) where
     pub number-high : (map′ : List ℕ) → 4096 ≤ k → RecordChecked ws map map′ r false
     number-high map′ h = fails map′ (λ c. let l = c .low in let e = is-number in omega arith)
 
-    pub not-back : (map′ : List ℕ) (p : ℕ) → p ≡ getD (fields (take 1024 (drop 5834 ws))) k 0 → ¬ (p ≡ r) → RecordChecked ws map map′ r false
+    pub not-back : (map′ : List ℕ) (p : ℕ) → p ≡ getD (fields (take 1024 (drop 6986 ws))) k 0 → ¬ (p ≡ r) → RecordChecked ws map map′ r false
     not-back map′ p e d = fails map′ (λ c. d (e ∙ ap (view ws .place) is-number ∙ c .found))
 
     -- the size as it is read, and the words of the cells
@@ -75,7 +75,7 @@ module _ (ws map : List ℕ) (r : ℕ) (hr : r < 512) where
           pub not-whole : (map′ : List ℕ) (b : Bool) → IsWhole cells size b → b ≡ false → RecordChecked ws map map′ r false
           not-whole map′ b s e = fails map′ (λ c. s .no e (ap readTerm (ec ∙ ef) ∙ c .whole ∙ ap Whole (sym es)))
 
-          module _ (low : k < 4096) (p : ℕ) (ep : p ≡ getD (fields (take 1024 (drop 5834 ws))) k 0) (back : p ≡ r) (z : Zeros fs size) (b : Bool) (s : IsWhole cells size b) (e : b ≡ true) where
+          module _ (low : k < 4096) (p : ℕ) (ep : p ≡ getD (fields (take 1024 (drop 6986 ws))) k 0) (back : p ≡ r) (z : Zeros fs size) (b : Bool) (s : IsWhole cells size b) (e : b ≡ true) where
             recorded : Recorded (view ws) r
             recorded = record {
               low = subst (λ (n : ℕ). n < 4096) is-number low;

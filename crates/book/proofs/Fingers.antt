@@ -14,12 +14,12 @@ use Rattle.book.specs.Memory.{View, view, rulesOf, Right}
 use Rattle.book.specs.Promises.{Adds, TakesLowest}
 use Rattle.book.proofs.Parts.{Elsewhere, window, one-part}
 
-pub fingers-only : {ws ws′ : List ℕ} → Elsewhere ws ws′ 4681 1153 → view ws′ ≡ view ws
+pub fingers-only : {ws ws′ : List ℕ} → Elsewhere ws ws′ 4681 2305 → view ws′ ≡ view ws
 fingers-only {ws} {ws′} e =
     ap (λ (t : List ℕ). made (shape t) (view ws′ .place) (view ws′ .size) (view ws′ .cells)) (window e 0 4681 (inl (omega arith)))
-    ∙ ap (λ (p : List ℕ). made (view ws .tree) (λ k. getD (fields p) k 0) (view ws′ .size) (view ws′ .cells)) (window e 5834 1024 (inr (omega arith)))
-    ∙ ap (λ (s : ℕ → ℕ). made (view ws .tree) (view ws .place) s (view ws′ .cells)) (fun-ext (λ r. e .kept (6858 + 9 * r) (inr (omega arith))))
-    ∙ ap (λ (c : ℕ → List ℕ). made (view ws .tree) (view ws .place) (view ws .size) c) (fun-ext (λ r. ap fields (window e (6859 + 9 * r) 8 (inr (omega arith)))))
+    ∙ ap (λ (p : List ℕ). made (view ws .tree) (λ k. getD (fields p) k 0) (view ws′ .size) (view ws′ .cells)) (window e 6986 1024 (inr (omega arith)))
+    ∙ ap (λ (s : ℕ → ℕ). made (view ws .tree) (view ws .place) s (view ws′ .cells)) (fun-ext (λ r. e .kept (8010 + 9 * r) (inr (omega arith))))
+    ∙ ap (λ (c : ℕ → List ℕ). made (view ws .tree) (view ws .place) (view ws .size) c) (fun-ext (λ r. ap fields (window e (8011 + 9 * r) 8 (inr (omega arith)))))
   where
     made : Shape → (ℕ → ℕ) → (ℕ → ℕ) → (ℕ → List ℕ) → View
     made t p s c = record { tree = t; place = p; size = s; cells = c }
@@ -39,5 +39,5 @@ with-fingers {ws} {ws₁} {ws₂} {k} {t} a e l = record {
 }
 
 -- the fingers are written
-pub written : (ws p : List ℕ) → length ws ≡ 11466 → length p ≡ length (take 1153 (drop 4681 ws)) → Elsewhere ws (putMid 4681 1153 ws p) 4681 1153
-written ws p size e = one-part 4681 1153 ws p (omega arith) (omega (arith, length-take 1153 (drop 4681 ws), length-drop 4681 ws))
+pub written : (ws p : List ℕ) → length ws ≡ 12618 → length p ≡ length (take 2305 (drop 4681 ws)) → Elsewhere ws (putMid 4681 2305 ws p) 4681 2305
+written ws p size e = one-part 4681 2305 ws p (omega arith) (omega (arith, length-take 2305 (drop 4681 ws), length-drop 4681 ws))

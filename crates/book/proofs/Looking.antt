@@ -44,10 +44,10 @@ rule-parent ws r h =
     ap parentOf (ap (λ (k : ℕ). getD ws k 0) e ∙ sym (getD-take 4681 ws (72 + suc (4096 + r)) 0 (omega arith)))
 
 -- the tree's part is as long as it should be, and so its nodes are low
-pub tree-long : (ws : List ℕ) → length ws ≡ 11466 → length (take 4681 ws) ≡ 4681
+pub tree-long : (ws : List ℕ) → length ws ≡ 12618 → length (take 4681 ws) ≡ 4681
 tree-long ws size = omega (arith, length-take 4681 ws)
 
-pub nodes-low : (ws : List ℕ) → length ws ≡ 11466 → (n : ℕ) → Used (view ws .tree) n → n < 4608
+pub nodes-low : (ws : List ℕ) → length ws ≡ 12618 → (n : ℕ) → Used (view ws .tree) n → n < 4608
 nodes-low ws size n u = used-low (take 4681 ws) (tree-long ws size) n u
 
 -- a number is held where its place is taken by a rule of that number

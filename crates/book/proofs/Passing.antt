@@ -35,7 +35,7 @@ pub record Next (ws : List ℕ) (from r : ℕ) : Type 0 where
   pub none : (j : ℕ) → from ≤ j → j < r → ¬ (taken (view ws) j ≡ true)
   pub here : r < 512 → taken (view ws) r ≡ true
 
-pub next-taken : (ws : List ℕ) (from r : ℕ) → length ws ≡ 11466 → First 1 (bits (take 8 (drop 64 ws))) from r → Next ws from r
+pub next-taken : (ws : List ℕ) (from r : ℕ) → length ws ≡ 12618 → First 1 (bits (take 8 (drop 64 ws))) from r → Next ws from r
 next-taken ws from r size f = record {
   after = f .after;
   within = omega (arith, f .within, long);
@@ -47,11 +47,11 @@ next-taken ws from r size f = record {
     long = omega (arith, length-bits (take 8 (drop 64 ws)), length-take 8 (drop 64 ws), length-drop 64 ws)
 
 -- the rules' map has 8 words
-pub rules-long : (ws : List ℕ) → length ws ≡ 11466 → length (take 8 (drop 64 ws)) ≡ 8
+pub rules-long : (ws : List ℕ) → length ws ≡ 12618 → length (take 8 (drop 64 ws)) ≡ 8
 rules-long ws size = omega (arith, length-take 8 (drop 64 ws), length-drop 64 ws)
 
 -- the maps have 72 words
-pub map-long : (ws : List ℕ) → length ws ≡ 11466 → length (take 72 ws) ≡ 72
+pub map-long : (ws : List ℕ) → length ws ≡ 12618 → length (take 72 ws) ≡ 72
 map-long ws size = omega (arith, length-take 72 ws)
 
 -- no mark in a map of zeros
@@ -102,21 +102,21 @@ checked-more ws ways ways′ r c u l b k e = record {
 
 -- ---- what is refused does not pass
 
-pub wrong-length : (ws : List ℕ) → ¬ (length ws ≡ 11466) → Checks ws false
+pub wrong-length : (ws : List ℕ) → ¬ (length ws ≡ 12618) → Checks ws false
 wrong-length ws n = record { yes = λ q. absurd (true≢false q refl); no = λ q p. n (p .size) }
 
 refuse : (ws : List ℕ) → ¬ (Passing ws) → Checks ws false
 refuse ws n = record { yes = λ q. absurd (true≢false q refl); no = λ q. n }
 
-pub wrong-links : (ws aims : List ℕ) → length ws ≡ 11466 → (b : Bool) → Targeted (view ws .tree) aims b → b ≡ false → Checks ws false
+pub wrong-links : (ws aims : List ℕ) → length ws ≡ 12618 → (b : Bool) → Targeted (view ws .tree) aims b → b ≡ false → Checks ws false
 wrong-links ws aims size b t e = refuse ws (λ p. targets-refuse (nodes-low ws size) (subst (λ (x : Bool). Targeted (view ws .tree) aims x) e t) (p .right .tree))
 
-pub wrong-record : (ws ways ways′ : List ℕ) (r : ℕ) → length ws ≡ 11466 → taken (view ws) r ≡ true → (b : Bool) → RecordChecked ws ways ways′ r b → b ≡ false → Checks ws false
+pub wrong-record : (ws ways ways′ : List ℕ) (r : ℕ) → length ws ≡ 12618 → taken (view ws) r ≡ true → (b : Bool) → RecordChecked ws ways ways′ r b → b ≡ false → Checks ws false
 wrong-record ws ways ways′ r size u b k e = refuse ws (λ p. k .no e (p .right .records r u, loosen (nodes-low ws size) (p .right .tree .ways (endOf (leaf (view ws) r)) (to-ends (view ws) (taken (view ws)) r u (let l = nodes-low ws size (4096 + r) u in omega arith)))))
 
 -- ---- the marks decide
 
-module _ (ws aims ways : List ℕ) (r : ℕ) (size : length ws ≡ 11466) (b : Bool) (t : Targeted (view ws .tree) aims b) (eb : b ≡ true) (la : length aims ≡ 72) (c : Checked ws ways r) (all : 512 ≤ r) where
+module _ (ws aims ways : List ℕ) (r : ℕ) (size : length ws ≡ 12618) (b : Bool) (t : Targeted (view ws .tree) aims b) (eb : b ≡ true) (la : length aims ≡ 72) (c : Checked ws ways r) (all : 512 ≤ r) where
   targeted : Targeted (view ws .tree) aims true
   targeted = subst (λ (x : Bool). Targeted (view ws .tree) aims x) eb t
 

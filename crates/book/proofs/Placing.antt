@@ -83,7 +83,7 @@ shows-rule ws k r size cells p at es ec = record {
     long = term-size (view ws) (nodes-low ws (p .size)) (p .right) r (at .used)
 
     wide : length (view ws .cells r) ≡ 32
-    wide = fields-long (take 8 (drop (6859 + 9 * r) ws)) ∙ omega (arith, length-take 8 (drop (6859 + 9 * r) ws), length-drop (6859 + 9 * r) ws, p .size, at .low)
+    wide = fields-long (take 8 (drop (8011 + 9 * r) ws)) ∙ omega (arith, length-take 8 (drop (8011 + 9 * r) ws), length-drop (8011 + 9 * r) ws, p .size, at .low)
 
     short : view ws .size r ≤ 32
     short = term-at (view ws) (nodes-low ws (p .size)) (p .right) r (at .used) .short
@@ -118,13 +118,13 @@ pub record TreeOnly (ws ws′ : List ℕ) (m : Shape) : Type 0 where
   pub sizes : (j : ℕ) → view ws′ .size j ≡ view ws .size j
   pub cellss : (j : ℕ) → view ws′ .cells j ≡ view ws .cells j
 
-pub tree-only : (ws t : List ℕ) → length ws ≡ 11466 → length t ≡ 4681 → TreeOnly ws (t ++ drop 4681 ws) (shape t)
+pub tree-only : (ws t : List ℕ) → length ws ≡ 12618 → length t ≡ 4681 → TreeOnly ws (t ++ drop 4681 ws) (shape t)
 tree-only ws t size lt = record {
   long = e .long;
   tree = ap shape (front-is 4681 ws t lt);
-  places = λ j. ap (λ (l : List ℕ). getD (fields l) j 0) (window e 5834 1024 (inr (omega arith)));
-  sizes = λ j. e .kept (6858 + 9 * j) (inr (omega arith));
-  cellss = λ j. ap fields (window e (6859 + 9 * j) 8 (inr (omega arith)));
+  places = λ j. ap (λ (l : List ℕ). getD (fields l) j 0) (window e 6986 1024 (inr (omega arith)));
+  sizes = λ j. e .kept (8010 + 9 * j) (inr (omega arith));
+  cellss = λ j. ap fields (window e (8011 + 9 * j) 8 (inr (omega arith)));
 }
   where
     e : Elsewhere ws (t ++ drop 4681 ws) 0 4681

@@ -29,10 +29,10 @@ use Rattle.book.specs.Promises.{IsTerm, Empties, Checks, Adds, Removes, 
 
 module _ where
   abbrev zeros : List ℕ
-  zeros = replicate 11466 0
+  zeros = replicate 12618 0
 
   none : ((n : ℕ) → view zeros .tree .used n ≡ false) × Passes (view zeros .tree) []
-  none = empty-words (take 4681 zeros) (λ k h. getD-take 4681 zeros k 0 (omega arith) ∙ getD-replicate 11466 k 0 0 (omega arith))
+  none = empty-words (take 4681 zeros) (λ k h. getD-take 4681 zeros k 0 (omega arith) ∙ getD-replicate 12618 k 0 0 (omega arith))
 
   none-listed : (u : ℕ → Bool) → ((n : ℕ) → u n ≡ false) → (n : ℕ) → listed u n ≡ []
   none-listed u h zero = refl
@@ -41,13 +41,13 @@ module _ where
   no-leaves : leaves (view zeros) ≡ []
   no-leaves = ap (map (leaf (view zeros))) (none-listed (taken (view zeros)) (λ r. none .0 (4096 + r)) 512)
 
-  pub empty-passes : Passing (replicate 11466 0)
+  pub empty-passes : Passing (replicate 12618 0)
   empty-passes = record {
-    size = length-replicate {A = ℕ} 11466 0;
+    size = length-replicate {A = ℕ} 12618 0;
     right = record { records = λ r u. absurd (true≢false u (none .0 (4096 + r))); tree = subst (λ xs. Passes (view zeros .tree) (ends xs)) (sym no-leaves) (none .1) };
   }
 
-  pub empty-rules : rulesIn (replicate 11466 0) ≡ noRules
+  pub empty-rules : rulesIn (replicate 12618 0) ≡ noRules
   empty-rules = fun-ext (λ k. ap (λ (b : Bool). pickHeld b (rule (term (view zeros) (view zeros .place k))) nothing) (not-held k))
     where
       both-false : (a : Bool) → both a false ≡ false
@@ -117,9 +117,9 @@ module _ (ws : List ℕ) (p : Passing ws) where
 -- ---- one outcome
 
 pub empties-once : (ws a b : List ℕ) (r s : ℕ) → Empties ws a r → Empties ws b s → (r ≡ s) × (a ≡ b)
-empties-once ws a b r s x y = go (ℕ-discrete (length ws) 11466)
+empties-once ws a b r s x y = go (ℕ-discrete (length ws) 12618)
   where
-    go : Dec (length ws ≡ 11466) → (r ≡ s) × (a ≡ b)
+    go : Dec (length ws ≡ 12618) → (r ≡ s) × (a ≡ b)
     go (yes e) = (x .made e .0 ∙ sym (y .made e .0), x .made e .1 ∙ sym (y .made e .1))
     go (no n) = (x .refused n .0 ∙ sym (y .refused n .0), x .refused n .1 ∙ sym (y .refused n .1))
 

@@ -24,13 +24,13 @@ pub record View : Type 0 where
   pub size : ℕ → ℕ
   pub cells : ℕ → List ℕ
 
--- The words: 4,681 of the tree, 1,153 of fingers, of which nothing is said, 1,024 of places, four to a word, and 512 records of 9: the length, and 32 cells, four to a word.
+-- The words: 4,681 of the tree, 2,305 of fingers, of which nothing is said, 1,024 of places, four to a word, and 512 records of 9: the length, and 32 cells, four to a word.
 abbrev pub view : List ℕ → View
 view ws = record {
   tree = shape (take 4681 ws);
-  place = λ k. getD (fields (take 1024 (drop 5834 ws))) k 0;
-  size = λ r. getD ws (6858 + 9 * r) 0;
-  cells = λ r. fields (take 8 (drop (6859 + 9 * r) ws));
+  place = λ k. getD (fields (take 1024 (drop 6986 ws))) k 0;
+  size = λ r. getD ws (8010 + 9 * r) 0;
+  cells = λ r. fields (take 8 (drop (8011 + 9 * r) ws));
 }
 
 -- A term's blank form as the tree has it: 32,768 for each variable.
@@ -81,7 +81,7 @@ module _ (v : View) where
 
 -- Memory passes: it has the fixed length, and what it says is right.
 pub record Passing (ws : List ℕ) : Type 0 where
-  pub size : length ws ≡ 11466
+  pub size : length ws ≡ 12618
   pub right : Right (view ws)
 
 -- The rules that it holds.

@@ -20,8 +20,8 @@ IsTerm t = readTerm t ≡ Whole (length t)
 
 -- Making an empty book: any contents of the right length become zeros, which hold no rules; another length stays as it is.
 pub record Empties (ws ws′ : List ℕ) (r : ℕ) : Type 0 where
-  pub made : length ws ≡ 11466 → (r ≡ 0) × (ws′ ≡ replicate 11466 0)
-  pub refused : ¬ (length ws ≡ 11466) → (r ≡ 1) × (ws′ ≡ ws)
+  pub made : length ws ≡ 12618 → (r ≡ 0) × (ws′ ≡ replicate 12618 0)
+  pub refused : ¬ (length ws ≡ 12618) → (r ≡ 1) × (ws′ ≡ ws)
 
 -- The check decides whether memory passes.
 pub record Checks (ws : List ℕ) (r : Bool) : Type 0 where

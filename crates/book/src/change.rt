@@ -35,11 +35,11 @@ pub fn add(m: &mut [u64], number: u16, term: &[u16]) -> Added
 
 // Writes the place of a number, and the record there.
 fn put_record(m: &mut [u64], r: usize, number: u16, term: &[u16])
-    requires { ⌜ (length (now m) ≡ 11466) × (r < 512) × (number < 4096) × (length (now term) ≤ 32) ⌝ }
+    requires { ⌜ (length (now m) ≡ 12618) × (r < 512) × (number < 4096) × (length (now term) ≤ 32) ⌝ }
     ensures { λ _. ⌜ Stores (view (now (m .entry))) (view (now (m .exit))) number r (now (term .entry)) ⌝ }
 {
-    bits::put_field(&mut m[5834..6858], crate::size_of(number), r as u16);
-    let at = 6859 + 9 * r;
+    bits::put_field(&mut m[6986..8010], crate::size_of(number), r as u16);
+    let at = 8011 + 9 * r;
     let end = at + 8;
     m[at - 1] = term.len() as u64;
     crate::record::store(&mut m[at..end], term);
@@ -47,10 +47,29 @@ fn put_record(m: &mut [u64], r: usize, number: u16, term: &[u16])
 
 // Puts the fingers that the new rule at the place r calls for. They are hints, and what the book holds does not depend on them.
 fn put_fingers(m: &mut [u64], r: usize)
-    requires { ⌜ (length (now m) ≡ 11466) × (r < 512) ⌝ }
+    requires { ⌜ (length (now m) ≡ 12618) × (r < 512) ⌝ }
     ensures { λ _. ⌜ view (now (m .exit)) ≡ view (now (m .entry)) ⌝ }
 {
-    let f = tree::fingers::fingers_for(&m[0..4681], &m[4681..5834], 4097 + r);
+    let at = tree::fingers::highest(&m[0..4681], 4097 + r);
+    put_last(m, at);
+    put_lane(m, at);
+}
+
+// The parent of the new node knows it, where it is the last child.
+fn put_last(m: &mut [u64], at: usize)
+    requires { ⌜ (length (now m) ≡ 12618) × (at ≤ 4608) ⌝ }
+    ensures { λ _. ⌜ view (now (m .exit)) ≡ view (now (m .entry)) ⌝ }
+{
+    let p = tree::fingers::list_ended(&m[0..4681], at);
+    bits::put_field(&mut m[4681..6986], 2 * p + 1, at as u16);
+}
+
+// The fingers to the new node, and its own.
+fn put_lane(m: &mut [u64], new: usize)
+    requires { ⌜ (length (now m) ≡ 12618) × (new ≤ 4608) ⌝ }
+    ensures { λ _. ⌜ view (now (m .exit)) ≡ view (now (m .entry)) ⌝ }
+{
+    let f = tree::fingers::fingers_for(&m[0..4681], &m[4681..6986], new);
     let at = f.at;
     if at == 0 {
         return;
@@ -58,9 +77,9 @@ fn put_fingers(m: &mut [u64], r: usize)
     let near = f.near;
     let far = f.far;
     let behind = f.behind;
-    bits::put_field(&mut m[4681..5834], at, behind as u16);
-    bits::put_field(&mut m[4681..5834], near, at as u16);
-    bits::put_field(&mut m[4681..5834], far, at as u16);
+    bits::put_field(&mut m[4681..6986], 2 * at, behind as u16);
+    bits::put_field(&mut m[4681..6986], 2 * near, at as u16);
+    bits::put_field(&mut m[4681..6986], 2 * far, at as u16);
 }
 
 // Removes the rule of a number, with the nodes that no other rule needs.

@@ -18,7 +18,7 @@ fn is_whole(cells: &[u16], size: usize) -> bool
 
 // The record at the place r and the way up from its rule. Marks the nodes on the way.
 fn check_record(m: &[u64], ways: &mut [u64], r: usize) -> bool
-    requires { ⌜ (length (now m) ≡ 11466) × (length (now ways) ≡ 72) × (r < 512) ⌝ }
+    requires { ⌜ (length (now m) ≡ 12618) × (length (now ways) ≡ 72) × (r < 512) ⌝ }
     ensures { λ b. ⌜ RecordChecked (now (m .entry)) (now (ways .entry)) (now (ways .exit)) r b ⌝ }
 {
     let w = m[4169 + r];
@@ -26,11 +26,11 @@ fn check_record(m: &[u64], ways: &mut [u64], r: usize) -> bool
     if 4096 <= number {
         return false;
     }
-    let place = bits::field(&m[5834..6858], crate::size_of(number));
+    let place = bits::field(&m[6986..8010], crate::size_of(number));
     if crate::size_of(place) != r {
         return false;
     }
-    let at = 6859 + 9 * r;
+    let at = 8011 + 9 * r;
     let end = at + 8;
     let length = m[at - 1];
     if 32 < length {

@@ -1,10 +1,10 @@
-// The rule book in lent memory of 11,466 words.
+// The rule book in lent memory of 12,618 words.
 //
 //   word 0 to 4,680       the tree: the node map (64 words), the rule map (8), the root and the nodes, and behind them
 //                         the rules, which hang below the last nodes of their forms (crate `tree`)
-//   word 4,681 to 5,833   fingers: hints for the search, four to a word (`tree::fingers`)
-//   word 5,834 to 6,857   places: for each rule number the place of its record, four to a word
-//   word 6,858 + 9 r      the record at the place r: the length of the term, and 8 words with its 32 cells
+//   word 4,681 to 6,985   fingers: hints for the search, four to a word (`tree::fingers`)
+//   word 6,986 to 8,009   places: for each rule number the place of its record, four to a word
+//   word 8,010 + 9 r      the record at the place r: the length of the term, and 8 words with its 32 cells
 //
 // A place of a number means something only where the rule there has that number, so removing a rule writes neither
 // places nor records.
@@ -51,7 +51,7 @@ pub struct Book {}
 
 impl Book {
     // The fixed length of a book's memory, in words.
-    pub const WORDS: usize = 11466;
+    pub const WORDS: usize = 12618;
     // How many rules a book holds at the most.
     pub const RULES: usize = 512;
     // How many nodes.
@@ -89,10 +89,10 @@ fn size_of(x: u16) -> usize
 
 // The place of a number's record, or 512 where the number is not held.
 pub fn place_of(m: &[u64], number: u16) -> usize
-    requires { ⌜ (length (now m) ≡ 11466) × (number < 4096) ⌝ }
+    requires { ⌜ (length (now m) ≡ 12618) × (number < 4096) ⌝ }
     ensures { λ r. ⌜ r ≡ pickPlace (heldAt (view (now (m .entry))) number) (view (now (m .entry)) .place number) ⌝ }
 {
-    let r = size_of(bits::field(&m[5834..6858], size_of(number)));
+    let r = size_of(bits::field(&m[6986..8010], size_of(number)));
     if Book::RULES <= r {
         return Book::RULES;
     }
@@ -119,7 +119,7 @@ pub fn show(m: &[u64], number: u16) -> Shown
             cells: [0; 32],
         };
     }
-    let at = 6859 + 9 * r;
+    let at = 8011 + 9 * r;
     let end = at + 8;
     let cells = record::load(&m[at..end]);
     Shown {

@@ -205,9 +205,9 @@ pub data History : List ℕ → Type 0 where
 
 -- Such memory passes.
 pub history-passes : {ws : List ℕ} → History ws → Passing ws
-history-passes (emptied {before} {ws} e) = go (ℕ-discrete (length before) 11466)
+history-passes (emptied {before} {ws} e) = go (ℕ-discrete (length before) 12618)
   where
-    go : Dec (length before ≡ 11466) → Passing ws
+    go : Dec (length before ≡ 12618) → Passing ws
     go (yes l) = subst Passing (sym (e .made l .1)) empty-passes
     go (no l) = absurd (let z = e .refused l .0 in omega arith)
 history-passes (batch {ws} {ws′} h r) = passing r (history-passes h) .book .passes
@@ -224,7 +224,7 @@ demand-3-answers h r = passing r (history-passes h)
 -- ==== One outcome: two outcomes that a promise allows are equal
 
 -- `cf_book_words`
-pub words-once : (r s : ℕ) → r ≡ 11466 → s ≡ 11466 → r ≡ s
+pub words-once : (r s : ℕ) → r ≡ 12618 → s ≡ 12618 → r ≡ s
 words-once r s e f = e ∙ sym f
 
 -- `cf_book_empty`

@@ -18,7 +18,7 @@ use Rattle.batch.specs.Promises.{Came, Runs, passing}
 
 -- The memory of an empty book.
 abbrev pub emptyBook : List ℕ
-emptyBook = replicate 11466 0
+emptyBook = replicate 12618 0
 
 -- What a batch on it comes to.
 came : {ws′ cells out out′ : List ℕ} {stop used n : ℕ} → Runs emptyBook ws′ cells out out′ stop used n → Came (run noRules cells (length out)) emptyBook ws′ out out′ stop used n

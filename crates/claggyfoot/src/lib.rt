@@ -62,7 +62,7 @@ pub extern "C" fn cf_name_of(table: &[u8], number: u64) -> NamePlace
 // The length of a book's memory in words.
 #[no_mangle]
 pub extern "C" fn cf_book_words() -> u64
-    ensures { λ r. ⌜ r ≡ 11466 ⌝ }
+    ensures { λ r. ⌜ r ≡ 12618 ⌝ }
 {
     wide(Book::WORDS)
 }

@@ -163,7 +163,7 @@ fn sibling(m: &[u64], cell: u64, last: u64, link: usize) -> usize
             return 0;
         }
         let most = reach(cell, c);
-        x = tree::fingers::onward(&m[0..4681], &m[4681..5834], x, w, most);
+        x = tree::fingers::onward(&m[0..4681], &m[4681..6986], x, w, most);
     }
     x
 }

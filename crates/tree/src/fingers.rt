@@ -1,8 +1,9 @@
-// Fingers: a link to a sibling further on, so that long lists of siblings are passed by leaps. One sibling in eight has one, to
-// the next that has, and one in 64 has one to the next of the 64.
+// Fingers: links to siblings further on, so that long lists of siblings are passed by leaps. One sibling in four has one, to the
+// next that has, and one in 32 has a far one, to the next of those. And each parent may know its last child.
 //
-// They stand in 1,153 words of their own, the finger of link l as field l. A finger is a hint: who follows one looks first
-// where it leads. So the check doesn't read them, removing a rule leaves them, and a wrong one costs time and never an answer.
+// They stand in 2,305 words of their own: the finger of link l is field 2 l, its last child field 2 l + 1. A finger is a hint:
+// who follows one looks first where it leads. So the check doesn't read them, removing a rule leaves them, and a wrong one costs
+// time and never an answer.
 ghost use mathlib.Core.Path.{_≡_};
 ghost use mathlib.Core.Bool.{true};
 ghost use Prim.Native.Nat.{_≤_};
@@ -44,15 +45,33 @@ fn is_further(m: &[u64], w: u64, f: usize, most: u64) -> bool
     bits::is_marked(&m[0..72], f - 1)
 }
 
-// From the node x with the word w on: where its finger leads, if that is further and not too far, or the next sibling.
+// What the parent of the node with the word w knows as its last child.
+fn last_beside(fingers: &[u64], w: u64) -> usize
+    requires { ⌜ length (now fingers) ≡ 2305 ⌝ }
+{
+    let p = crate::parent_of(w) as usize;
+    if 4608 < p {
+        return 0;
+    }
+    bits::field(fingers, 2 * p + 1) as usize
+}
+
+// From the node x with the word w on: to the last sibling, where nothing before the blank is wanted; else where its finger leads,
+// if that is further and not too far, or to the next sibling.
 pub fn onward(m: &[u64], fingers: &[u64], x: usize, w: u64, most: u64) -> usize
     requires { ⌜ length (now m) ≡ 4681 ⌝ }
-    requires { ⌜ length (now fingers) ≡ 1153 ⌝ }
+    requires { ⌜ length (now fingers) ≡ 2305 ⌝ }
     requires { ⌜ x ≤ 4608 ⌝ }
     ensures { λ r. ⌜ Onward (shape (now (m .entry))) w most r ⌝ }
 {
+    if most == 0x8000 {
+        let l = last_beside(fingers, w);
+        if is_further(m, w, l, most) {
+            return l;
+        }
+    }
     if has_finger(crate::cell_of(w)) {
-        let f = bits::field(fingers, x) as usize;
+        let f = bits::field(fingers, 2 * x) as usize;
         if is_further(m, w, f, most) {
             return f;
         }
@@ -87,7 +106,7 @@ fn one_more(e: Passed, x: usize, c: u64) -> Passed
 // Those before the node l. No list has more than 4,608 siblings.
 fn before(m: &[u64], fingers: &[u64], l: usize) -> Passed
     requires { ⌜ length (now m) ≡ 4681 ⌝ }
-    requires { ⌜ length (now fingers) ≡ 1153 ⌝ }
+    requires { ⌜ length (now fingers) ≡ 2305 ⌝ }
     requires { ⌜ l ≤ 4608 ⌝ }
     ensures { λ r. ⌜ (r .near ≤ 4608) × (r .far ≤ 4608) ⌝ }
 {
@@ -153,8 +172,9 @@ fn ends(far: bool, c: u64) -> bool {
     has_finger(c)
 }
 
-// Going up from the node `last`, past those that are the only child: the node that came in beside others.
-fn highest(m: &[u64], last: usize) -> usize
+// Going up from the node `last`, past those that are the only child: the node that came in beside others. A new rule's nodes came
+// in one below the other, and this is the only one with siblings.
+pub fn highest(m: &[u64], last: usize) -> usize
     requires { ⌜ length (now m) ≡ 4681 ⌝ }
     requires { ⌜ last ≤ 4608 ⌝ }
     ensures { λ r. ⌜ r ≤ 4608 ⌝ }
@@ -182,6 +202,23 @@ fn highest(m: &[u64], last: usize) -> usize
     l
 }
 
+// The link whose last child the node `at` is, or 4,609, which is no link and whose fields nobody reads.
+pub fn list_ended(m: &[u64], at: usize) -> usize
+    requires { ⌜ length (now m) ≡ 4681 ⌝ }
+    requires { ⌜ at ≤ 4608 ⌝ }
+    ensures { λ r. ⌜ r ≤ 4609 ⌝ }
+{
+    let w = m[72 + at];
+    let p = crate::parent_of(w) as usize;
+    if crate::next_of(w) != 0 {
+        return 4609;
+    }
+    if 4608 < p {
+        return 4609;
+    }
+    p
+}
+
 // Fingers to put: that of the node `at`, to `behind`, and those of `near` and `far`, to it. Where there is no node they are the
 // root's, which nobody follows.
 pub struct Fingers {
@@ -191,15 +228,13 @@ pub struct Fingers {
     pub behind: usize,
 }
 
-// The fingers that a new rule calls for, whose node is `last`: its nodes came in one below the other, and the highest of them
-// is the only one with siblings.
-pub fn fingers_for(m: &[u64], fingers: &[u64], last: usize) -> Fingers
+// The fingers that the new node `at` calls for.
+pub fn fingers_for(m: &[u64], fingers: &[u64], at: usize) -> Fingers
     requires { ⌜ length (now m) ≡ 4681 ⌝ }
-    requires { ⌜ length (now fingers) ≡ 1153 ⌝ }
-    requires { ⌜ last ≤ 4608 ⌝ }
+    requires { ⌜ length (now fingers) ≡ 2305 ⌝ }
+    requires { ⌜ at ≤ 4608 ⌝ }
     ensures { λ r. ⌜ ((r .near ≤ 4608) × (r .far ≤ 4608)) × ((r .at ≤ 4608) × (r .behind ≤ 4608)) ⌝ }
 {
-    let at = highest(m, last);
     let c = crate::cell_of(m[72 + at]);
     if !has_finger(c) {
         return Fingers {

@@ -6,7 +6,7 @@ use std::collections::{BTreeMap, BTreeSet};
 use model::term::read;
 
 /// The words of a book.
-pub const WORDS: usize = 11_466;
+pub const WORDS: usize = 12_618;
 
 /// Links of nodes: 1 to this. The links of rules follow.
 pub const LAST_NODE: u16 = 4_096;
@@ -97,17 +97,17 @@ pub fn link(words: &[u64], link: u16) -> Link {
 /// The place of a rule number.
 pub fn place(words: &[u64], number: u16) -> u16 {
     let number = usize::from(number);
-    field(words[5_834 + number / 4], number % 4)
+    field(words[6_986 + number / 4], number % 4)
 }
 
 /// The length that the record at a place says.
 pub fn length(words: &[u64], place: u16) -> u64 {
-    words[6_858 + 9 * usize::from(place)]
+    words[8_010 + 9 * usize::from(place)]
 }
 
 /// The 32 cells of the record at a place.
 pub fn cells(words: &[u64], place: u16) -> Vec<u16> {
-    let start = 6_859 + 9 * usize::from(place);
+    let start = 8_011 + 9 * usize::from(place);
     let cell = |index: usize| field(words[start + index / 4], index % 4);
     (0..32).map(cell).collect()
 }

@@ -63,8 +63,8 @@ pub fn words_that_matter(words: &[u64]) -> BTreeSet<usize> {
         matter.insert(72 + usize::from(link));
         if link > memory::LAST_NODE {
             let (place, number) = (link - 4_097, memory::link(words, link).cell);
-            matter.insert(5_834 + usize::from(number) / 4);
-            let record = 6_858 + 9 * usize::from(place);
+            matter.insert(6_986 + usize::from(number) / 4);
+            let record = 8_010 + 9 * usize::from(place);
             matter.extend(record..record + 9);
         }
     }
@@ -134,12 +134,12 @@ pub fn renumber(words: &mut [u64], one: u16, other: u16) {
         });
     }
     if one > memory::LAST_NODE {
-        let start = |link: u16| 6_858 + 9 * usize::from(link - 4_097);
+        let start = |link: u16| 8_010 + 9 * usize::from(link - 4_097);
         (0..9).for_each(|index| words.swap(start(one) + index, start(other) + index));
         for link in [one, other] {
             if memory::is_used(words, link) {
                 let number = usize::from(memory::link(words, link).cell);
-                put_field(words, 5_834, number, link - 4_097);
+                put_field(words, 6_986, number, link - 4_097);
             }
         }
     }
@@ -157,10 +157,10 @@ pub fn rewrite(random: &mut Random, words: &mut [u64]) {
     for number in (0..4_096).filter(|number| !held.contains_key(number)) {
         let any = random.below(512) as u16;
         let place = random.pick(&[0, 1, 2, 511, 512, 0xffff, any]);
-        put_field(words, 5_834, usize::from(number), place);
+        put_field(words, 6_986, usize::from(number), place);
     }
     let matter = words_that_matter(words);
-    for place in (73..FINGERS).chain(6_858..memory::WORDS) {
+    for place in (73..FINGERS).chain(8_010..memory::WORDS) {
         if !matter.contains(&place) {
             words[place] = random.bits();
         }

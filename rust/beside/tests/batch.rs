@@ -475,7 +475,7 @@ fn any_memory(random: &mut Random, words: &[u64]) -> bool {
 #[test]
 fn memory_of_a_wrong_length() {
     for words in [Both::empty(), Both::after(&EXAMPLE)].map(|both| both.lent.words().to_vec()) {
-        for length in [0, 1, 72, 4_681, 11_465, 11_467, 22_932] {
+        for length in [0, 1, 72, 4_681, 12_617, 12_619, 25_236] {
             let mut words = words.clone();
             words.resize(length, 0);
             for cells in [&[][..], &[ROOM], &[30, A], &[0xffff], &[2]] {

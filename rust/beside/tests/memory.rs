@@ -175,7 +175,7 @@ fn the_other_fields_of_the_root() {
 #[test]
 fn wrong_lengths() {
     for words in [book(&[]), drawn()] {
-        for length in [0, 1, 71, 72, 4_681, 6_858, 11_465, 11_467, 22_932] {
+        for length in [0, 1, 71, 72, 4_681, 8_010, 12_617, 12_619, 25_236] {
             let mut words = words.clone();
             words.resize(length, 0);
             assert_eq!(calls_alike(&words), [Line::Length]);
@@ -242,7 +242,7 @@ fn damage(random: &mut Random, words: &mut [u64]) {
         random.pick(&rules)
     };
     let number = memory::link(words, rule).cell & 0x0fff;
-    let record = 6_859 + 9 * usize::from(rule - 4_097);
+    let record = 8_011 + 9 * usize::from(rule - 4_097);
     let any = random.pick(&[0, one, other, 1, 4_096, 4_097, 4_608, 4_609, 0xffff]);
     match random.below(24) {
         0 => words.swap(72 + usize::from(one), 72 + usize::from(other)),
@@ -263,8 +263,8 @@ fn damage(random: &mut Random, words: &mut [u64]) {
             let twice = random.pick(&[memory::link(words, other).cell, 4_096, 0xffff, number ^ 1]);
             put(words, rule, |link| link.cell = twice);
         }
-        12 => put_field(words, 5_834, usize::from(number), any),
-        13 => put_field(words, 5_834, usize::from(number), random.below(512) as u16),
+        12 => put_field(words, 6_986, usize::from(number), any),
+        13 => put_field(words, 6_986, usize::from(number), random.below(512) as u16),
         // The record: its length, and a cell.
         14 => {
             words[record - 1] = words[record - 1].wrapping_add(random.pick(&[1, u64::MAX, 1 << 32]))
@@ -337,7 +337,7 @@ fn damage(random: &mut Random, words: &mut [u64]) {
         // A rule is called by another number, in all places.
         21 => {
             let new = random.below(4_096) as u16;
-            put_field(words, 5_834, usize::from(new), rule - 4_097);
+            put_field(words, 6_986, usize::from(new), rule - 4_097);
             put(words, rule, |link| link.cell = new);
         }
         // The cell of a node and of one record.
@@ -445,7 +445,7 @@ fn a_rule_below_a_rule() {
             };
             words[72 + 4_098] = below.word();
             set_used(&mut words, 4_098, true);
-            put_field(&mut words, 5_834, 9, 1);
+            put_field(&mut words, 6_986, 9, 1);
             words[5_714] = cells.len() as u64;
             for (index, cell) in cells.iter().enumerate() {
                 put_field(&mut words, 5_715, index, *cell);

@@ -112,7 +112,7 @@ fn damage(random: &mut Random, words: &mut [u64]) {
     let (one, other) = (random.pick(&used), random.pick(&used));
     let any = random.pick(&[0, one, other, last, 4_096, 4_097, 4_609, 0xffff]);
     let cell = random.pick(&[0, 1, 2, 0x1000, 0x8000, 0x8001, 0xffff]);
-    let record = 6_858 + 9 * random.below(usize::from(last.saturating_sub(4_096)).max(1));
+    let record = 8_010 + 9 * random.below(usize::from(last.saturating_sub(4_096)).max(1));
     match random.below(11) {
         0 => words.swap(72 + usize::from(one), 72 + usize::from(other)),
         1 => put(words, one, |link| link.next = any),
@@ -122,7 +122,7 @@ fn damage(random: &mut Random, words: &mut [u64]) {
         5 => put(words, 0, |link| link.first = any),
         6 => set_used(words, one, false),
         7 => set_used(words, random.between(1, 4_608) as u16, true),
-        8 => put_field(words, 5_834, random.below(4_096), random.below(513) as u16),
+        8 => put_field(words, 6_986, random.below(4_096), random.below(513) as u16),
         9 => put_field(words, record, random.below(36), cell),
         _ => words[record + random.below(9)] ^= 1 << random.below(64),
     }

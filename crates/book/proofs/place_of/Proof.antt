@@ -14,7 +14,7 @@ use Rattle.book.proofs.place_of.Tie as tie
 read : (k : tie.After-size-of2) → k .size-of2 .result ≡ view (k .before .before .before .before .before .args .m .now) .place (k .before .before .before .before .before .args .number)
 read k =
     k .size-of2 .ensures ∙ k .before .field .ensures
-    ∙ ap (λ (i : ℕ). getD (fields (take 1024 (drop 5834 (k .before .before .before .before .before .args .m .now)))) i 0) (k .before .before .size-of .ensures)
+    ∙ ap (λ (i : ℕ). getD (fields (take 1024 (drop 6986 (k .before .before .before .before .before .args .m .now)))) i 0) (k .before .before .size-of .ensures)
 
 returns : tie.Need-returns
 returns c =

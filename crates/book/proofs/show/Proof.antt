@@ -44,10 +44,10 @@ returns-2 c =
     let i = c .before .before .before in
     let s = i .before .before .before in
     let r = i .before .place-of .result in
-    let e : 6859 + 9 * r - 1 ≡ 6858 + 9 * r = omega arith in
-    let w : 6859 + 9 * r + 8 - (6859 + 9 * r) ≡ 8 = omega arith in
+    let e : 8011 + 9 * r - 1 ≡ 8010 + 9 * r = omega arith in
+    let w : 8011 + 9 * r + 8 - (8011 + 9 * r) ≡ 8 = omega arith in
     shows-rule (s .args .m .now) (s .args .number) r _ (c .before .load .result) (s .pre .0) (here i) (ap (λ (k : ℕ). getD (s .args .m .now) k 0) e)
-    (c .before .load .ensures ∙ ap (λ (k : ℕ). fields (take k (drop (6859 + 9 * r) (s .args .m .now)))) w)
+    (c .before .load .ensures ∙ ap (λ (k : ℕ). fields (take k (drop (8011 + 9 * r) (s .args .m .now)))) w)
 
 pub show-spec : {M : Type 1} → statement M
 show-spec =

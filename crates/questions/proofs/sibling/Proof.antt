@@ -26,7 +26,7 @@ abbrev μ-loop : tie.MeasureT-loop
 loop-holds : tie.Need-loop-holds Inv-loop μ-loop
 loop-holds c = (c .before .pre, start)
 
-low : (l : tie.In-loop Inv-loop μ-loop) → (l .before .loop .x ≤ 4608) × (length (l .before .before .before .args .m .now) ≡ 11466)
+low : (l : tie.In-loop Inv-loop μ-loop) → (l .before .loop .x ≤ 4608) × (length (l .before .before .before .args .m .now) ≡ 12618)
 low l = (in-tree (l .before .before .before .args .m .now) (l .before .loop .x) (l .before .loop .inv .0) (l .loop-test .taken), l .before .loop .inv .0 .passing .size)
 
 -- a symbol above the last
@@ -43,7 +43,7 @@ onward-requires : tie.Need-onward-requires Inv-loop μ-loop
 onward-requires c κs =
     let h = low (c .before .before .before .before .before .before .before .before) in
     let m = c .before .before .before .before .before .before .before .before .before .before .before .args .m .now in
-    (omega (arith, length-take 4681 m), (omega (arith, length-take 1153 (drop 4681 m), length-drop 4681 m), h .0))
+    (omega (arith, length-take 4681 m), (omega (arith, length-take 2305 (drop 4681 m), length-drop 4681 m), h .0))
 
 leapt : (c : tie.After-onward Inv-loop μ-loop) → Leapt (c .before .before .before .before .before .before .before .before .before .before .before .before .args .m .now) (c .before .before .before .before .before .before .before .before .before .before .before .before .args .cell) (c .before .before .before .before .before .before .before .before .before .before .before .before .args .link)
     (c .before .before .before .before .before .before .before .before .before .before .loop .x) (c .onward .result)

@@ -22,7 +22,7 @@ module _ (k : tie.After-seek) where
   tryable : Tryable (k .before .before .before .before .args .fills-question) (k .before .before .before .before .args .fills-rule) (k .before .before .before .before .args .m .now) (k .before .before .before .before .args .question .now) to
   tryable = k .before .before .before .before .pre .each to skips
 
-  size : length (k .before .before .before .before .args .m .now) ≡ 11466
+  size : length (k .before .before .before .before .args .m .now) ≡ 12618
   size = k .before .before .before .before .pre .threaded .passing .size
 
 returns : tie.Need-returns

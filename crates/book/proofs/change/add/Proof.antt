@@ -110,7 +110,7 @@ module _ (h : tie.After-hang) where
   abbrev ws₁ : List ℕ
   ws₁ = at .plant .last .0 ++ drop 4681 (start (free-at at) .args .m .now)
 
-  size₁ : length ws₁ ≡ 11466
+  size₁ : length ws₁ ≡ 12618
   size₁ = one at .long ∙ start (free-at at) .pre .0 .size
 
   hung-kept : length (h .hang .last .0) ≡ 4681
@@ -147,7 +147,7 @@ module _ (q : tie.After-put-record) where
   abbrev plants : tie.After-plant
   plants = hangs .before .before .before .before .before .before
 
-  long : length (q .put-record .last .0) ≡ 11466
+  long : length (q .put-record .last .0) ≡ 12618
   long = q .put-record .kept .0 ∙ two hangs .long ∙ size₁ hangs
 
   takes : Adds (start (free-at plants) .args .m .now) (q .put-record .last .0) (start (free-at plants) .args .number) (start (free-at plants) .args .term .now) Taken

@@ -21,14 +21,14 @@ number-read p = p .before .before .before .before .before
 abbrev start : tie.After-cell-of → tie.Start
 start n = n .before .before .before .before
 
-place-is : (p : tie.After-size-of2) → p .size-of2 .result ≡ getD (fields (take 1024 (drop 5834 (start (number-read p) .args .m .now)))) (number-read p .cell-of .result) 0
+place-is : (p : tie.After-size-of2) → p .size-of2 .result ≡ getD (fields (take 1024 (drop 6986 (start (number-read p) .args .m .now)))) (number-read p .cell-of .result) 0
 place-is p =
     p .size-of2 .ensures ∙ p .before .field .ensures
-    ∙ ap (λ (i : ℕ). getD (fields (take 1024 (drop 5834 (start (number-read p) .args .m .now)))) i 0) (p .before .before .size-of .ensures)
+    ∙ ap (λ (i : ℕ). getD (fields (take 1024 (drop 6986 (start (number-read p) .args .m .now)))) i 0) (p .before .before .size-of .ensures)
 
-size-is : (s : tie.Start) → getD (s .args .m .now) (6859 + 9 * s .args .r - 1) 0 ≡ view (s .args .m .now) .size (s .args .r)
+size-is : (s : tie.Start) → getD (s .args .m .now) (8011 + 9 * s .args .r - 1) 0 ≡ view (s .args .m .now) .size (s .args .r)
 size-is s =
-    let e : 6859 + 9 * s .args .r - 1 ≡ 6858 + 9 * s .args .r = omega arith in
+    let e : 8011 + 9 * s .args .r - 1 ≡ 8010 + 9 * s .args .r = omega arith in
     ap (λ (k : ℕ). getD (s .args .m .now) k 0) e
 
 eight : (ws : List ℕ) (at w : ℕ) → w ≡ 8 → fields (take w (drop at ws)) ≡ fields (take 8 (drop at ws))
@@ -36,13 +36,13 @@ eight ws at w e = ap (λ (k : ℕ). fields (take k (drop at ws))) e
 
 -- the words of the cells
 abbrev words : tie.Start → List ℕ
-words s = take (6859 + 9 * s .args .r + 8 - (6859 + 9 * s .args .r)) (drop (6859 + 9 * s .args .r) (s .args .m .now))
+words s = take (8011 + 9 * s .args .r + 8 - (8011 + 9 * s .args .r)) (drop (8011 + 9 * s .args .r) (s .args .m .now))
 
 words-are : (s : tie.Start) → fields (words s) ≡ view (s .args .m .now) .cells (s .args .r)
-words-are s = eight (s .args .m .now) (6859 + 9 * s .args .r) (6859 + 9 * s .args .r + 8 - (6859 + 9 * s .args .r)) (omega arith)
+words-are s = eight (s .args .m .now) (8011 + 9 * s .args .r) (8011 + 9 * s .args .r + 8 - (8011 + 9 * s .args .r)) (omega arith)
 
 eight-words : (s : tie.Start) → length (words s) ≡ 8
-eight-words s = omega (arith, s .pre .0, s .pre .2, length-take (6859 + 9 * s .args .r + 8 - (6859 + 9 * s .args .r)) (drop (6859 + 9 * s .args .r) (s .args .m .now)), length-drop (6859 + 9 * s .args .r) (s .args .m .now))
+eight-words s = omega (arith, s .pre .0, s .pre .2, length-take (8011 + 9 * s .args .r + 8 - (8011 + 9 * s .args .r)) (drop (8011 + 9 * s .args .r) (s .args .m .now)), length-drop (8011 + 9 * s .args .r) (s .args .m .now))
 
 whole-part : (n : ℕ) (cells : List ℕ) → take (n - 0) cells ≡ take n cells
 whole-part n cells = let e : n - 0 ≡ n = omega arith in ap (λ (k : ℕ). take k cells) e
@@ -103,7 +103,7 @@ returns-6 c =
     climbed (s .args .m .now) (s .args .ways .now) (s .args .r) (s .pre .2) (n .cell-of .result) (n .cell-of .ensures) _ (size-is s) (fields (words s)) (words-are s) (l .result) (l .ensures)
     (c .before .before .before .before .before .before .before .before .before .before .before .before .before .before .before .before .before .before .before .before .before .before .before .before .before .before .before .if1 .left) (p .size-of2 .result) (place-is p) (c .before .before .before .before .before .before .before .before .before .before .before .before .before .before .before .before .before .before .before .before .before .before .if2 .left) (z .ensures .0 (not-false _ (c .before .before .before .before .before .before .before .before .before .before .before .before .before .before .before .before .before .if4 .left))) (i .result) (i .ensures) (not-false _ (c .before .before .before .before .before .before .before .before .before .before .before .before .if5 .left))
     (t .last .0) (s .pre .1) (t .ensures) (u .result) (u .ensures) (k .last .1 .0) (k .result)
-    (subst (λ (y : List ℕ). Climbed (view (s .args .m .now) .tree) (t .last .0) (k .last .1 .0) (u .result) (formed y) (k .result)) (whole-part (getD (s .args .m .now) (6859 + 9 * s .args .r - 1) 0) (l .result)) (k .ensures))
+    (subst (λ (y : List ℕ). Climbed (view (s .args .m .now) .tree) (t .last .0) (k .last .1 .0) (u .result) (formed y) (k .result)) (whole-part (getD (s .args .m .now) (8011 + 9 * s .args .r - 1) 0) (l .result)) (k .ensures))
 
 pub check-record-spec : {M : Type 1} → statement M
 check-record-spec =

@@ -14,7 +14,7 @@ use Rattle.book.proofs.check.passes.Statement.{statement}
 use Rattle.book.proofs.check.passes.Tie as tie
 
 abbrev Inv-loop : tie.InvT-loop
-Inv-loop m aims ways₀ r₀ rest₀ ways r rest = (length m ≡ 11466) × (r ≤ 512) × (r < 512 → taken (view m) r ≡ true) × Checked m ways r × (r < 512 → rest ≡ restOf (take 8 (drop 64 m)) r)
+Inv-loop m aims ways₀ r₀ rest₀ ways r rest = (length m ≡ 12618) × (r ≤ 512) × (r < 512 → taken (view m) r ≡ true) × Checked m ways r × (r < 512 → rest ≡ restOf (take 8 (drop 64 m)) r)
 
 abbrev μ-loop : tie.MeasureT-loop
 μ-loop m aims ways₀ r₀ rest₀ ways r rest = 512 - r
