@@ -61,10 +61,11 @@ pub fn decide(
         place,
     );
     if s.alive {
+        let skip = s.skip as u16;
         return Decision {
             listed: false,
             down: tree::first_of(w) as u16,
-            skip: s.skip as u16,
+            skip,
             place: s.place as u16,
         };
     }

@@ -16,7 +16,7 @@ returns-2 c =
     let e = k .before .before in
     let s = e .before .before .before in
     goes-down (s .args .fills-question) (s .args .fills-rule) (s .args .question .now) (s .args .w) (s .args .skip) (s .args .place) (e .before .accepts .result) (e .before .accepts .ensures) (e .if1 .left)
-    (k .before .cell-of .result) (k .before .cell-of .ensures) _ _ _ (k .step .ensures) (c .before .before .before .if2 .taken) _ (c .before .before .first-of .ensures)
+    (k .before .cell-of .result) (k .before .cell-of .ensures) _ _ _ (k .step .ensures) (c .before .before .before .if2 .taken) _ (c .before .first-of .ensures)
 
 returns-3 : tie.Need-returns-3
 returns-3 c =
@@ -35,8 +35,8 @@ decide-spec =
     (λ c κs. search needs)
     (λ c. search needs)
     (λ c κs. search needs)
-    (λ c κs. search needs)
     (λ c. search needs)
+    (λ c κs. search needs)
     (λ c. search needs)
     (λ c. search needs)
     returns-2
