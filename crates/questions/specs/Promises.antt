@@ -12,6 +12,7 @@ use Rattle.term.specs.Steps.{spot, Stands}
 use Rattle.tree.specs.Words.{cellOf, firstOf, nextOf}
 use Rattle.book.specs.Rules.{rule}
 use Rattle.tree.specs.Shape.{Used}
+use Rattle.tree.specs.Promises.{Onward}
 use Rattle.book.specs.Memory.{view, Passing, rulesIn}
 use Rattle.questions.specs.declared.Point.{Point}
 use Rattle.questions.specs.declared.Points.{Points}
@@ -74,6 +75,12 @@ pub data PassesBy (ws : List ℕ) (cell link : ℕ) : ℕ → Type 0 where
 pub record Reach (cell c r : ℕ) : Type 0 where
   pub low : r ≤ 32768
   pub between : (d : ℕ) → c ≤ d → d < r → ¬ (d ≡ cell)
+
+-- The next sibling, or one further on up to which nothing is passed that may not be.
+pub record Onwards (ws : List ℕ) (cell w r : ℕ) : Type 0 where
+  pub most : ℕ
+  pub reach : Reach cell (cellOf w) most
+  pub on : Onward (view ws .tree) w most r
 
 -- Passed by up to r; or up to a symbol above `last`, and r is none.
 pub data Sought (ws : List ℕ) (cell last link r : ℕ) : Type 0 where

@@ -10,8 +10,9 @@ ghost use Rattle.term.specs.Steps.{Stands};
 ghost use Rattle.book.specs.Memory.{Passing};
 ghost use Rattle.book.specs.Promises.{IsTerm};
 ghost use Rattle.bits.specs.Numbers.{NumberSet, has};
+ghost use Rattle.tree.specs.Words.{cellOf};
 ghost use Rattle.questions.specs.Asking.{numbers};
-ghost use Rattle.questions.specs.Promises.{Turned, Stacked, Reach, Sought, Decisive, Skips, moved, Threaded, Stood, Became, Steady, Went, IsRoot, Rooted, Searched, Lists};
+ghost use Rattle.questions.specs.Promises.{Turned, Stacked, Onwards, Sought, Decisive, Skips, moved, Threaded, Stood, Became, Steady, Went, IsRoot, Rooted, Searched, Lists};
 use term::machine;
 
 // A point still to be tried: a link, the subterms of a rule still to skip there, and the place in the question. It is small, since
@@ -131,17 +132,18 @@ pub fn place_points(w: u64, p: Point, t: Decision, depth: usize) -> Points
     }
 }
 
-// How far a leap may go from a sibling with the cell c: not past the cell wanted, nor past the blank, which is the last.
-fn reach(cell: u64, c: u64) -> u64
-    requires { ⌜ (c ≡ cell → ⊥) ⌝ }
-    ensures { λ r. ⌜ Reach cell c r ⌝ }
+// The sibling to look at after x, which has the word w: a leap goes not past the cell wanted, nor past the blank, which is the last.
+fn onward(m: &[u64], cell: u64, x: usize, w: u64) -> usize
+    requires { ⌜ (length (now m) ≡ 12618) × (x ≤ 4608) ⌝ }
+    requires { ⌜ (cellOf w ≡ cell → ⊥) ⌝ }
+    ensures { λ r. ⌜ Onwards (now (m .entry)) cell w r ⌝ }
 {
-    if c < cell {
-        if cell < 0x8000 {
-            return cell;
+    if cell < 0x8000 {
+        if tree::cell_of(w) < cell {
+            return tree::fingers::onward(&m[0..4681], &m[4681..6986], x, w, cell);
         }
     }
-    0x8000
+    tree::fingers::to_last(&m[0..4681], &m[4681..6986], x, w)
 }
 
 // The first sibling from the link on whose cell is the one wanted, or that is a blank; none where a symbol above `last` comes
@@ -163,8 +165,7 @@ fn sibling(m: &[u64], cell: u64, last: u64, link: usize) -> usize
         if last < c {
             return 0;
         }
-        let most = reach(cell, c);
-        x = tree::fingers::onward(&m[0..4681], &m[4681..6986], x, w, most);
+        x = onward(m, cell, x, w);
     }
     x
 }

@@ -56,20 +56,13 @@ fn last_beside(fingers: &[u64], w: u64) -> usize
     bits::field(fingers, 2 * p + 1) as usize
 }
 
-// From the node x with the word w on: to the last sibling, where nothing before the blank is wanted; else where its finger leads,
-// if that is further and not too far, or to the next sibling.
+// From the node x with the word w on: where its finger leads, if that is further and not too far, or the next sibling.
 pub fn onward(m: &[u64], fingers: &[u64], x: usize, w: u64, most: u64) -> usize
     requires { ⌜ length (now m) ≡ 4681 ⌝ }
     requires { ⌜ length (now fingers) ≡ 2305 ⌝ }
     requires { ⌜ x ≤ 4608 ⌝ }
     ensures { λ r. ⌜ Onward (shape (now (m .entry))) w most r ⌝ }
 {
-    if most == 0x8000 {
-        let l = last_beside(fingers, w);
-        if is_further(m, w, l, most) {
-            return l;
-        }
-    }
     if has_finger(crate::cell_of(w)) {
         let f = bits::field(fingers, 2 * x) as usize;
         if is_further(m, w, f, most) {
@@ -77,6 +70,20 @@ pub fn onward(m: &[u64], fingers: &[u64], x: usize, w: u64, most: u64) -> usize
         }
     }
     crate::next_of(w) as usize
+}
+
+// The same where nothing before the blank is wanted, which is the last child if it is there: to the last child.
+pub fn to_last(m: &[u64], fingers: &[u64], x: usize, w: u64) -> usize
+    requires { ⌜ length (now m) ≡ 4681 ⌝ }
+    requires { ⌜ length (now fingers) ≡ 2305 ⌝ }
+    requires { ⌜ x ≤ 4608 ⌝ }
+    ensures { λ r. ⌜ Onward (shape (now (m .entry))) w 32768 r ⌝ }
+{
+    let l = last_beside(fingers, w);
+    if is_further(m, w, l, 0x8000) {
+        return l;
+    }
+    onward(m, fingers, x, w, 0x8000)
 }
 
 // Siblings with fingers before a place: the last that has a far one, and the last behind it that has a near one; or 0.

@@ -1,11 +1,11 @@
 -- Each link on the way is that of a node in use, and there is less tree behind it.
 use borrow.Author.Needs.{needs}
-use mathlib.Core.Path.{_≡_, refl, subst}
+use mathlib.Core.Path.{_≡_, refl, sym, _∙_, subst}
 use mathlib.Core.Logic.{_⊎_, inl, inr}
 use mathlib.Core.List.{List}
 use Prim.Native.Nat.{ℕ, _+_, _^_, _≤_, _<_}
 use native.Mathlib.Omega.{arith}
-use lib.ListN.{length, getD, take, drop, length-take, length-drop}
+use lib.ListN.{length, getD}
 use Rattle.tree.specs.Words.{cellOf, nextOf}
 use Rattle.tree.specs.Trie.{trie}
 use Rattle.tree.specs.Search.{size}
@@ -41,19 +41,20 @@ returns-3 c =
 
 onward-requires : tie.Need-onward-requires Inv-loop μ-loop
 onward-requires c κs =
-    let h = low (c .before .before .before .before .before .before .before .before) in
-    let m = c .before .before .before .before .before .before .before .before .before .before .before .args .m .now in
-    (omega (arith, length-take 4681 m), (omega (arith, length-take 2305 (drop 4681 m), length-drop 4681 m), h .0))
+    let k = c .before .before .before in
+    let h = low (k .before .before) in
+    ((h .1, h .0), λ e. c .before .before .if1 .left (k .cell-of .ensures ∙ e))
 
-leapt : (c : tie.After-onward Inv-loop μ-loop) → Leapt (c .before .before .before .before .before .before .before .before .before .before .before .before .args .m .now) (c .before .before .before .before .before .before .before .before .before .before .before .before .args .cell) (c .before .before .before .before .before .before .before .before .before .before .before .before .args .link)
-    (c .before .before .before .before .before .before .before .before .before .before .loop .x) (c .onward .result)
+leapt : (c : tie.After-onward Inv-loop μ-loop) → Leapt (c .before .before .before .before .before .before .before .before .before .args .m .now) (c .before .before .before .before .before .before .before .before .before .args .cell) (c .before .before .before .before .before .before .before .before .before .args .link)
+    (c .before .before .before .before .before .before .before .loop .x) (c .onward .result)
 leapt c =
-    let e = c .before .before .before .before in
+    let e = c .before in
     let k = e .before .before .before in
     let l = k .before .before .before .loop in
     let s = k .before .before .before .before .before .args in
+    let o = c .onward .ensures in
     go (s .m .now) (s .cell) (s .link) (l .x) _ _ (l .inv .0) (k .before .before .loop-test .taken) (λ i. k .before .shared-slice-known2 .given i .fits) (k .cell-of .result) (k .cell-of .ensures) (e .before .if2 .left) (e .before .before .if1 .left)
-    (c .before .before .before .reach .ensures) (c .onward .ensures) (l .inv .1)
+    (subst (λ (x : ℕ). Reach (s .cell) x (o .most)) (sym (k .cell-of .ensures)) (o .reach)) (o .on) (l .inv .1)
   where
     go : (ws : List ℕ) (cell link x most r : ℕ) → Threaded ws x → ¬ (x ≡ 0) → ((i : ℕ) → getD ws i 0 < 2 ^ 64) → (c : ℕ) → c ≡ cellOf (getD ws (72 + x) 0) → c < 32768 → ¬ (c ≡ cell) → Reach cell c most
         → (r ≡ nextOf (getD ws (72 + x) 0)) ⊎ Further (view ws .tree) (getD ws (72 + x) 0) most r → PassesBy ws cell link x → Leapt ws cell link x r
@@ -74,13 +75,6 @@ sibling-spec =
     (λ c. reached (c .before .before .before .before .loop .inv .1))
     (λ c. reached (c .before .before .before .before .before .loop .inv .1))
     returns-3
-    (λ c κs. c .before .before .if1 .left)
-    (λ c. search needs)
-    (λ c. search needs)
-    (λ c. let h = low (c .before .before .before .before .before .before) in omega arith)
-    (λ c. search needs)
-    (λ c. search needs)
-    (λ c. let h = low (c .before .before .before .before .before .before .before) in omega arith)
     onward-requires
     (λ c. leapt c .less)
     (λ c. (leapt c .threaded, leapt c .by))

@@ -1,4 +1,4 @@
--- A hint is followed where it leads further, else the next sibling comes
+-- The finger is followed where it leads further, else the next sibling comes
 use mathlib.Core.Logic.{inl, inr}
 use borrow.Author.Needs.{needs}
 use Rattle.tree.proofs.fingers.onward.Statement.{statement}
@@ -10,13 +10,10 @@ onward-spec =
     (tie.spec
     (λ c κs. search needs)
     (λ c κs. search needs)
+    (λ c. search needs)
+    (λ c κs. search needs)
+    (λ c. search needs)
+    (λ c κs. search needs)
     (λ c. inr (c .before .is-further .ensures (c .if2 .taken)))
-    (λ c κs. search needs)
-    (λ c κs. search needs)
-    (λ c. search needs)
-    (λ c κs. search needs)
-    (λ c. search needs)
-    (λ c κs. search needs)
-    (λ c. inr (c .before .is-further2 .ensures (c .if4 .taken)))
     (λ c κs. search needs)
     (λ c. inl (c .next-of .ensures)))
