@@ -7,7 +7,7 @@ use native.Mathlib.Omega.{arith}
 use lib.ListN.{getD}
 use Rattle.tree.specs.Shape.{after, Used}
 use Rattle.tree.specs.Order.{ahead}
-use Rattle.tree.specs.Words.{cellOf, parentOf, nextOf, word}
+use Rattle.tree.specs.Words.{cellOf, parentOf, nextOf}
 use Rattle.tree.specs.Trie.{trie}
 use Rattle.tree.specs.Search.{size}
 use Rattle.tree.specs.Promises.{Further}

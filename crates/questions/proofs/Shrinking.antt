@@ -15,7 +15,7 @@ use Rattle.tree.specs.Search.{size}
 use Rattle.book.specs.Memory.{view}
 use Rattle.questions.specs.declared.Point.{Point}
 use Rattle.questions.specs.declared.Points.{Points}
-use Rattle.questions.specs.Promises.{Threaded, Skips, stay, skip-on, Stood, wordAt, besideOf, Tried, Ended, Answered, Passed, Deeper, Closed, stays, gone, moves, Became}
+use Rattle.questions.specs.Promises.{Threaded, Skips, stay, skip-on, Stood, besideOf, Tried, Ended, Answered, Passed, Deeper, Closed, stays, gone, moves, Became}
 use Rattle.questions.proofs.Threads.{beside-threaded, beside-smaller, child-less}
 
 module _ (fq fr : Bool) (ws q : List ℕ) (words : (i : ℕ) → getD ws i 0 < 2 ^ 64) where

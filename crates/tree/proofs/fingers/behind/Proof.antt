@@ -1,5 +1,5 @@
 -- Each step is at a link of the memory
-use Prim.Native.Nat.{_-_, _≤_}
+use Prim.Native.Nat.{_-_}
 use borrow.Author.Needs.{needs}
 use Rattle.tree.proofs.fingers.behind.Statement.{statement}
 use Rattle.tree.proofs.fingers.behind.Tie as tie

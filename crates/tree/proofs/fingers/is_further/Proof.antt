@@ -1,5 +1,5 @@
 -- Each test that fails is a way out with nothing promised; past them all that is promised has been read
-use mathlib.Core.Path.{refl, sym}
+use mathlib.Core.Path.{refl}
 use Rattle.term.specs.Counting.{true≢false}
 use Rattle.tree.proofs.Leaping.{looked-at}
 use borrow.Author.Needs.{needs}
