@@ -99,17 +99,17 @@ pub fn put_field(words: &mut [u64], start: usize, index: usize, value: u16) {
 /// The word of the first fingers.
 pub const FINGERS: usize = 4_681;
 
-/// Fingers that lead anywhere, mostly to what is in use: hints may be wrong.
+/// Fingers and last children that may be wrong, mostly links in use: hints may hold anything.
 pub fn any_fingers(random: &mut Random, words: &mut [u64]) {
     let used = memory::in_use(words);
-    for link in 0..=usize::from(memory::LAST_RULE) {
+    for field in 0..4 * (6_986 - FINGERS) {
         let finger = match random.below(8) {
             0 => random.cell(),
             1 => 0,
-            _ if used.is_empty() => link as u16,
+            _ if used.is_empty() => field as u16,
             _ => random.pick(&used),
         };
-        put_field(words, FINGERS, link, finger);
+        put_field(words, FINGERS, field, finger);
     }
 }
 
