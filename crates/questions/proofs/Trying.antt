@@ -11,7 +11,7 @@ use Rattle.tree.specs.Words.{cellOf, nextOf}
 use Rattle.questions.specs.declared.Point.{Point}
 use Rattle.questions.specs.declared.Points.{Points}
 use Rattle.questions.specs.Walk.{good}
-use Rattle.questions.specs.Promises.{Turned, Placed, Stacked, stays, gone, moves, Tried, Answered, Passed, Deeper, wordAt, moved}
+use Rattle.questions.specs.Promises.{Turned, Placed, Stacks, Stacked, stays, gone, moves, Tried, Answered, Passed, Deeper, wordAt, moved}
 
 -- a rule that is listed has nothing below
 pub none-below : (fq fr : Bool) (q : List ℕ) (w skip place : ℕ) (lists : Bool) (down skip′ place′ : ℕ) → Turned fq fr q w skip place lists down skip′ place′ → lists ≡ true → down ≡ 0
@@ -21,37 +21,26 @@ none-below fq fr q w skip place lists down skip′ place′ t f = go (ℕ-discre
     go (yes z) = z
     go (no d) = absurd (true≢false f (t .lists-is ∙ ap (good fq fr) (t .goes d .walk)))
 
--- the sibling and the first child as points, and how they are placed
-module _ (w : ℕ) (p : Point) (n down skip′ place′ depth : ℕ) (e : n ≡ nextOf w) where
-  plainly : ℕ → Points
-  plainly d = record { beside = record { link = n; skip = p .skip; place = p .place }; below = record { link = down; skip = skip′; place = place′ }; depth = d }
+-- the sibling and the first child, each with a node or without
+module _ (beside below : Point) (depth : ℕ) where
+  pub both-none : beside .link ≡ 0 → below .link ≡ 0 → Stacks beside below depth (record { beside = beside; below = below; depth = depth - 1 })
+  both-none z y = record { plain = record { beside = beside; below = below; depth = depth }; is-beside = refl; is-below = refl; level = λ _. refl; more = λ d. absurd (d y); closed = gone z refl refl }
 
-  beside-is : _≡_ {A = Point} (record { link = n; skip = p .skip; place = p .place }) (record { link = nextOf w; skip = p .skip; place = p .place })
-  beside-is = ap (λ (x : ℕ). record { link = x; skip = p .skip; place = p .place }) e
+  pub child-only : beside .link ≡ 0 → ¬ (below .link ≡ 0) → Stacks beside below depth (record { beside = below; below = below; depth = depth })
+  child-only z y = record { plain = record { beside = beside; below = below; depth = depth + 1 }; is-beside = refl; is-below = refl; level = λ e. absurd (y e); more = λ _. refl; closed = moves z refl refl refl }
 
-  level : down ≡ 0 → Placed w p down skip′ place′ depth (plainly depth)
-  unfolding plainly
-  level z = record { beside = beside-is; below = refl; level = λ _. refl; more = λ d. absurd (d z) }
+  pub sibling-only : below .link ≡ 0 → Stacks beside below depth (record { beside = beside; below = below; depth = depth })
+  sibling-only y = record { plain = record { beside = beside; below = below; depth = depth }; is-beside = refl; is-below = refl; level = λ _. refl; more = λ d. absurd (d y); closed = stays refl }
 
-  more : ¬ (down ≡ 0) → Placed w p down skip′ place′ depth (plainly (depth + 1))
-  unfolding plainly
-  more d = record { beside = beside-is; below = refl; level = λ z. absurd (d z); more = λ _. refl }
+  pub both-some : ¬ (below .link ≡ 0) → Stacks beside below depth (record { beside = beside; below = below; depth = depth + 1 })
+  both-some y = record { plain = record { beside = beside; below = below; depth = depth + 1 }; is-beside = refl; is-below = refl; level = λ e. absurd (y e); more = λ _. refl; closed = stays refl }
 
-  pub both-none : n ≡ 0 → down ≡ 0 → Stacked w p down skip′ place′ depth (record { beside = record { link = n; skip = p .skip; place = p .place }; below = record { link = down; skip = skip′; place = place′ }; depth = depth - 1 })
-  unfolding plainly
-  both-none z y = record { plain = plainly depth; placed = level y; closed = gone z refl refl }
-
-  pub child-only : n ≡ 0 → ¬ (down ≡ 0) → Stacked w p down skip′ place′ depth (record { beside = record { link = down; skip = skip′; place = place′ }; below = record { link = down; skip = skip′; place = place′ }; depth = depth })
-  unfolding plainly
-  child-only z y = record { plain = plainly (depth + 1); placed = more y; closed = moves z refl refl refl }
-
-  pub sibling-only : down ≡ 0 → Stacked w p down skip′ place′ depth (record { beside = record { link = n; skip = p .skip; place = p .place }; below = record { link = down; skip = skip′; place = place′ }; depth = depth })
-  unfolding plainly
-  sibling-only y = record { plain = plainly depth; placed = level y; closed = stays refl }
-
-  pub both-some : ¬ (down ≡ 0) → Stacked w p down skip′ place′ depth (record { beside = record { link = n; skip = p .skip; place = p .place }; below = record { link = down; skip = skip′; place = place′ }; depth = depth + 1 })
-  unfolding plainly
-  both-some y = record { plain = plainly (depth + 1); placed = more y; closed = stays refl }
+pub stacked : (w : ℕ) (p : Point) (n down skip′ place′ depth : ℕ) (r : Points) → n ≡ nextOf w → Stacks (record { link = n; skip = p .skip; place = p .place }) (record { link = down; skip = skip′; place = place′ }) depth r → Stacked w p down skip′ place′ depth r
+stacked w p n down skip′ place′ depth r e s = record {
+  plain = s .plain;
+  placed = record { beside = s .is-beside ∙ ap (λ (x : ℕ). record { link = x; skip = p .skip; place = p .place }) e; below = s .is-below; level = s .level; more = s .more };
+  closed = s .closed;
+}
 
 -- the points are placed by the machine's numbers, whatever link it came from
 pub placed-at : (w : ℕ) (p : Point) (x down skip′ place′ depth : ℕ) (r : Points) → Placed w p down skip′ place′ depth r → Placed w (moved p x) down skip′ place′ depth r

@@ -53,6 +53,15 @@ pub data Closed (depth : ℕ) (plain r : Points) : Type 0 where
   gone : plain .beside .link ≡ 0 → plain .depth ≡ depth → r .depth ≡ depth - 1 → Closed depth plain r
   moves : plain .beside .link ≡ 0 → plain .depth ≡ depth + 1 → r .beside ≡ plain .below → r .depth ≡ depth → Closed depth plain r
 
+-- The two points in the place of the last of `depth`.
+pub record Stacks (beside below : Point) (depth : ℕ) (r : Points) : Type 0 where
+  pub plain : Points
+  pub is-beside : plain .beside ≡ beside
+  pub is-below : plain .below ≡ below
+  pub level : below .link ≡ 0 → plain .depth ≡ depth
+  pub more : ¬ (below .link ≡ 0) → plain .depth ≡ depth + 1
+  pub closed : Closed depth plain r
+
 pub record Stacked (w : ℕ) (p : Point) (down skip′ place′ depth : ℕ) (r : Points) : Type 0 where
   pub plain : Points
   pub placed : Placed w p down skip′ place′ depth plain

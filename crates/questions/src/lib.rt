@@ -12,7 +12,7 @@ ghost use Rattle.book.specs.Promises.{IsTerm};
 ghost use Rattle.bits.specs.Numbers.{NumberSet, has};
 ghost use Rattle.tree.specs.Words.{cellOf};
 ghost use Rattle.questions.specs.Asking.{numbers};
-ghost use Rattle.questions.specs.Promises.{Turned, Stacked, Onwards, Sought, Decisive, Skips, moved, Threaded, Stood, Became, Steady, Went, IsRoot, Rooted, Searched, Lists};
+ghost use Rattle.questions.specs.Promises.{Turned, Stacks, Stacked, Onwards, Sought, Decisive, Skips, moved, Threaded, Stood, Became, Steady, Went, IsRoot, Rooted, Searched, Lists};
 use term::machine;
 
 // A point still to be tried: a link, the subterms of a rule still to skip there, and the place in the question. It is small, since
@@ -85,27 +85,15 @@ pub struct Points {
     pub depth: usize,
 }
 
-// The points after the node with the word w was tried at the point p, the last of `depth`, and t was decided: its sibling
-// takes its place, and its first child stands above, each where there is one to try. Without a sibling the child takes the place.
-pub fn place_points(w: u64, p: Point, t: Decision, depth: usize) -> Points
+// The points of a node's sibling and of its first child, in the place of the last of `depth`: each stands where it has a node, and
+// without a sibling the child takes the place.
+fn stack(beside: Point, below: Point, depth: usize) -> Points
     requires { ⌜ 0 < depth ⌝ }
     requires { ⌜ depth ≤ 34 ⌝ }
-    ensures { λ r. ⌜ Stacked w p (t .down) (t .skip) (t .place) depth r ⌝ }
+    ensures { λ r. ⌜ Stacks beside below depth r ⌝ }
 {
-    let next = tree::next_of(w) as u16;
-    let beside = Point {
-        link: next,
-        skip: p.skip,
-        place: p.place,
-    };
-    let down = t.down;
-    let below = Point {
-        link: down,
-        skip: t.skip,
-        place: t.place,
-    };
-    if next == 0 {
-        if down == 0 {
+    if beside.link == 0 {
+        if below.link == 0 {
             return Points {
                 beside,
                 below,
@@ -118,7 +106,7 @@ pub fn place_points(w: u64, p: Point, t: Decision, depth: usize) -> Points
             depth,
         };
     }
-    if down == 0 {
+    if below.link == 0 {
         return Points {
             beside,
             below,
@@ -130,6 +118,25 @@ pub fn place_points(w: u64, p: Point, t: Decision, depth: usize) -> Points
         below,
         depth: depth + 1,
     }
+}
+
+// The points after the node with the word w was tried at the point p, the last of `depth`, and t was decided.
+pub fn place_points(w: u64, p: Point, t: Decision, depth: usize) -> Points
+    requires { ⌜ 0 < depth ⌝ }
+    requires { ⌜ depth ≤ 34 ⌝ }
+    ensures { λ r. ⌜ Stacked w p (t .down) (t .skip) (t .place) depth r ⌝ }
+{
+    let beside = Point {
+        link: tree::next_of(w) as u16,
+        skip: p.skip,
+        place: p.place,
+    };
+    let below = Point {
+        link: t.down,
+        skip: t.skip,
+        place: t.place,
+    };
+    stack(beside, below, depth)
 }
 
 // The sibling to look at after x, which has the word w: a leap goes not past the cell wanted, nor past the blank, which is the last.
