@@ -1,4 +1,4 @@
--- The has numbers in order: what a walk from mark to mark writes, how many they are, and that they are the answers.
+-- The marked numbers in order: what a walk from mark to mark writes, how many they are, and that they are the answers.
 use mathlib.Core.Path.{_≡_, refl, sym, ap, _∙_, subst}
 use mathlib.Core.Logic.{_⊎_, inl, inr, _↔_}
 use mathlib.Core.List.{List, _++_, append-nil, List·Memᴰ}
