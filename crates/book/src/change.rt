@@ -52,6 +52,7 @@ fn put_fingers(m: &mut [u64], r: usize)
 {
     let at = tree::fingers::highest(&m[0..4681], 4097 + r);
     put_last(m, at);
+    put_slot(m, at);
     put_lane(m, at);
 }
 
@@ -62,6 +63,15 @@ fn put_last(m: &mut [u64], at: usize)
 {
     let p = tree::fingers::list_ended(&m[0..4681], at);
     bits::put_field(&mut m[4681..6986], 2 * p + 1, at as u16);
+}
+
+// Who wants the new node by its cell finds it at once.
+fn put_slot(m: &mut [u64], at: usize)
+    requires { ⌜ (length (now m) ≡ 12618) × (at ≤ 4608) ⌝ }
+    ensures { λ _. ⌜ view (now (m .exit)) ≡ view (now (m .entry)) ⌝ }
+{
+    let k = tree::fingers::slot_for(&m[0..4681], at);
+    bits::put_field(&mut m[4681..6986], k, at as u16);
 }
 
 // The fingers to the new node, and its own.

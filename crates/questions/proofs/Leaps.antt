@@ -55,6 +55,10 @@ module _ (ws : List ℕ) (p : Passing ws) (all : (i : ℕ) → getD ws i 0 < 2 ^
           let r = ih (q .0) (g .used) (e ∙ sym (g .under)) (let a = g .above in omega arith) z (let a = g .above in omega arith) passed in
           (r .0, let s = r .1 in let t = less in omega arith)
 
+-- up to the cell wanted there is nothing that may not be passed
+pub up-to-it : (cell c : ℕ) → cell < 32768 → Reach cell c cell
+up-to-it cell c low = record { low = omega arith; between = λ k l h e. omega arith }
+
 -- a finger that leads further on
 pub leaps : (ws : List ℕ) (cell link x most r : ℕ) → Threaded ws x → ¬ (x ≡ 0) → ((i : ℕ) → getD ws i 0 < 2 ^ 64) → (c : ℕ) → c ≡ cellOf (getD ws (72 + x) 0) → Reach cell c most → Further (view ws .tree) (getD ws (72 + x) 0) most r
     → PassesBy ws cell link x → Leapt ws cell link x r

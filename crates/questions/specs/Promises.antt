@@ -75,6 +75,11 @@ wordAt ws p = getD ws (72 + p .link) 0
 abbrev pub besideOf : List ℕ → Point → Point
 besideOf ws p = record { link = nextOf (wordAt ws p); skip = p .skip; place = p .place }
 
+-- A link of a passing book's tree: none, or that of a node in use.
+pub record Threaded (ws : List ℕ) (link : ℕ) : Type 0 where
+  pub passing : Passing ws
+  pub used : (n : ℕ) → link ≡ suc n → Used (view ws .tree) n
+
 -- From the link on, sibling by sibling, to x: each that is passed is a symbol, and not the one with the cell.
 pub data PassesBy (ws : List ℕ) (cell link : ℕ) : ℕ → Type 0 where
   start : PassesBy ws cell link link
@@ -90,6 +95,11 @@ pub record Onwards (ws : List ℕ) (cell w r : ℕ) : Type 0 where
   pub most : ℕ
   pub reach : Reach cell (cellOf w) most
   pub on : Onward (view ws .tree) w most r
+
+-- A link of the tree, up to which all is passed by.
+pub record Begins (ws : List ℕ) (cell link r : ℕ) : Type 0 where
+  pub threaded : Threaded ws r
+  pub by : PassesBy ws cell link r
 
 -- Passed by up to r; or up to a symbol above `last`, and r is none.
 pub data Sought (ws : List ℕ) (cell last link r : ℕ) : Type 0 where
@@ -109,11 +119,6 @@ pub record Decisive (fq : Bool) (question : List ℕ) (skip place cell : ℕ) : 
 -- The point p at a link further on.
 abbrev pub moved : Point → ℕ → Point
 moved p x = record { link = x; skip = p .skip; place = p .place }
-
--- A link of a passing book's tree: none, or that of a node in use.
-pub record Threaded (ws : List ℕ) (link : ℕ) : Type 0 where
-  pub passing : Passing ws
-  pub used : (n : ℕ) → link ≡ suc n → Used (view ws .tree) n
 
 -- What a turn asks of the point x that it comes to: its node is in the tree, and a rule that is listed has a number that can be marked.
 pub record Tryable (fq fr : Bool) (ws question : List ℕ) (x : Point) : Type 0 where

@@ -12,7 +12,7 @@ ghost use Rattle.book.specs.Promises.{IsTerm};
 ghost use Rattle.bits.specs.Numbers.{NumberSet, has};
 ghost use Rattle.tree.specs.Words.{cellOf};
 ghost use Rattle.questions.specs.Asking.{numbers};
-ghost use Rattle.questions.specs.Promises.{Turned, Stacks, Stacked, Onwards, Sought, Decisive, Skips, moved, Threaded, Stood, Became, Steady, Went, IsRoot, Rooted, Searched, Lists};
+ghost use Rattle.questions.specs.Promises.{Turned, Stacks, Stacked, Onwards, Begins, Sought, Decisive, Skips, moved, Threaded, Stood, Became, Steady, Went, IsRoot, Rooted, Searched, Lists};
 use term::machine;
 
 // A point still to be tried: a link, the subterms of a rule still to skip there, and the place in the question. It is small, since
@@ -153,13 +153,34 @@ fn onward(m: &[u64], cell: u64, x: usize, w: u64) -> usize
     tree::fingers::to_last(&m[0..4681], &m[4681..6986], x, w)
 }
 
+// Where to begin looking for the cell from the link on: at once where it is known, or some way on, or at the link.
+fn at_once(m: &[u64], cell: u64, link: usize) -> usize
+    requires { ⌜ Threaded (now m) link ⌝ }
+    ensures { λ r. ⌜ Begins (now (m .entry)) cell link r ⌝ }
+{
+    if link == 0 {
+        return link;
+    }
+    if 0x8000 <= cell {
+        return link;
+    }
+    let w = m[72 + link];
+    if cell <= tree::cell_of(w) {
+        return link;
+    }
+    if tree::next_of(w) == 0 {
+        return link;
+    }
+    tree::fingers::known(&m[0..4681], &m[4681..6986], link, w, cell)
+}
+
 // The first sibling from the link on whose cell is the one wanted, or that is a blank; none where a symbol above `last` comes
 // before. Most siblings are passed here, at one load each and nothing stored, and long lists of them by leaps.
 fn sibling(m: &[u64], cell: u64, last: u64, link: usize) -> usize
     requires { ⌜ Threaded (now m) link ⌝ }
     ensures { λ r. ⌜ Sought (now (m .entry)) cell last link r ⌝ }
 {
-    let mut x = link;
+    let mut x = at_once(m, cell, link);
     while x != 0 {
         let w = m[72 + x];
         let c = tree::cell_of(w);

@@ -93,6 +93,10 @@ pub record Further (m : Shape) (w most f : ℕ) : Type 0 where
   pub further : cellOf w < m .cell node
   pub near : m .cell node ≤ most
 
+-- The link x itself, or a sibling of its node further on
+abbrev pub Leap : Shape → (x w most r : ℕ) → Type 0
+Leap m x w most r = (r ≡ x) ⊎ Further m w most r
+
 -- The next sibling, or one further on
 abbrev pub Onward : Shape → ℕ → ℕ → ℕ → Type 0
 Onward m w most r = (r ≡ nextOf w) ⊎ Further m w most r

@@ -1,24 +1,30 @@
 // Fingers: links to siblings further on, so that long lists of siblings are passed by leaps. One sibling in four has one, to the
-// next that has, and one in 32 has a far one, to the next of those. And each parent may know its last child.
+// next that has, and one in 32 has a far one, to the next of those. Each parent may know its last child. And a child that came in
+// beside others has a slot by its parent and cell, so that who wants just this one is there at once.
 //
-// They stand in 2,305 words of their own: the finger of link l is field 2 l, its last child field 2 l + 1. A finger is a hint:
-// who follows one looks first where it leads. So the check doesn't read them, removing a rule leaves them, and a wrong one costs
-// time and never an answer.
+// They stand in 2,305 words of their own: the finger of link l is field 2 l, its last child field 2 l + 1, for the links of forms;
+// slot k is field 8,194 + k. A finger is a hint: who follows one looks first where it leads. So the check doesn't read them, removing
+// a rule leaves them, and a wrong one costs time and never an answer.
 ghost use mathlib.Core.Path.{_≡_};
 ghost use mathlib.Core.Bool.{true};
-ghost use Prim.Native.Nat.{_≤_};
+ghost use Prim.Native.Nat.{_≤_, _<_};
 ghost use lib.ListN.{length};
 ghost use Rattle.tree.specs.Words.{shape};
-ghost use Rattle.tree.specs.Promises.{Further, Onward};
+ghost use Rattle.tree.specs.Promises.{Further, Onward, Leap};
 
-// Has a node with this cell a finger? Names are numbered one after the other, so those that have are spread evenly.
+// Spreads cells over 65,536 places: those of a list lie apart, whatever steps its names are numbered in.
+fn spread(cell: u64) -> u64 {
+    cell % 65536 * 40503 % 65536
+}
+
+// Has a node with this cell a finger?
 fn has_finger(cell: u64) -> bool {
-    cell % 4 == 0
+    spread(cell) < 16384
 }
 
 // Has it a far one?
 fn has_far(cell: u64) -> bool {
-    cell % 32 == 0
+    spread(cell) < 2048
 }
 
 // Does the link f lead to a sibling further on than the node with the word w, with a cell of `most` at the most?
@@ -50,7 +56,7 @@ fn last_beside(fingers: &[u64], w: u64) -> usize
     requires { ⌜ length (now fingers) ≡ 2305 ⌝ }
 {
     let p = crate::parent_of(w) as usize;
-    if 4608 < p {
+    if 4096 < p {
         return 0;
     }
     bits::field(fingers, 2 * p + 1) as usize
@@ -84,6 +90,41 @@ pub fn to_last(m: &[u64], fingers: &[u64], x: usize, w: u64) -> usize
         return l;
     }
     onward(m, fingers, x, w, 0x8000)
+}
+
+// The field of the slot for the child of p with the cell c.
+fn slot(p: u64, c: u64) -> usize
+    ensures { λ r. ⌜ r < 9218 ⌝ }
+{
+    let k = (p % 65536 * 31153 + c % 65536 * 40503) / 64 % 1024;
+    8194 + k as usize
+}
+
+// From the node x with the word w, which has a sibling behind it: to the child with the cell c, if its slot leads to it, or to one
+// before it; else to x itself.
+pub fn known(m: &[u64], fingers: &[u64], x: usize, w: u64, c: u64) -> usize
+    requires { ⌜ length (now m) ≡ 4681 ⌝ }
+    requires { ⌜ length (now fingers) ≡ 2305 ⌝ }
+    ensures { λ r. ⌜ Leap (shape (now (m .entry))) x w c r ⌝ }
+{
+    let f = bits::field(fingers, slot(crate::parent_of(w), c)) as usize;
+    if is_further(m, w, f, c) {
+        return f;
+    }
+    x
+}
+
+// The field of the slot for the node `at`, or 9,219, which nobody reads, for a rule.
+pub fn slot_for(m: &[u64], at: usize) -> usize
+    requires { ⌜ length (now m) ≡ 4681 ⌝ }
+    requires { ⌜ at ≤ 4608 ⌝ }
+    ensures { λ r. ⌜ r < 9220 ⌝ }
+{
+    if 4096 < at {
+        return 9219;
+    }
+    let w = m[72 + at];
+    slot(crate::parent_of(w), crate::cell_of(w))
 }
 
 // Siblings with fingers before a place: the last that has a far one, and the last behind it that has a near one; or 0.
@@ -220,7 +261,7 @@ pub fn list_ended(m: &[u64], at: usize) -> usize
     if crate::next_of(w) != 0 {
         return 4609;
     }
-    if 4608 < p {
+    if 4096 < p {
         return 4609;
     }
     p
@@ -235,7 +276,18 @@ pub struct Fingers {
     pub behind: usize,
 }
 
-// The fingers that the new node `at` calls for.
+fn no_fingers() -> Fingers
+    ensures { λ r. ⌜ ((r .near ≤ 4608) × (r .far ≤ 4608)) × ((r .at ≤ 4608) × (r .behind ≤ 4608)) ⌝ }
+{
+    Fingers {
+        near: 0,
+        far: 0,
+        at: 0,
+        behind: 0,
+    }
+}
+
+// The fingers that the new node `at` calls for. Rules have none: they are never looked for by number.
 pub fn fingers_for(m: &[u64], fingers: &[u64], at: usize) -> Fingers
     requires { ⌜ length (now m) ≡ 4681 ⌝ }
     requires { ⌜ length (now fingers) ≡ 2305 ⌝ }
@@ -244,12 +296,10 @@ pub fn fingers_for(m: &[u64], fingers: &[u64], at: usize) -> Fingers
 {
     let c = crate::cell_of(m[72 + at]);
     if !has_finger(c) {
-        return Fingers {
-            near: 0,
-            far: 0,
-            at: 0,
-            behind: 0,
-        };
+        return no_fingers();
+    }
+    if 4096 < at {
+        return no_fingers();
     }
     let behind = behind(m, at, c);
     let e = before(m, fingers, at);

@@ -25,6 +25,7 @@ pub fn print(sheet: &Sheet) {
     print_check(sheet);
     print_names(sheet);
     print_means(sheet);
+    print_growth(sheet);
     print_full(sheet);
 }
 
@@ -86,6 +87,20 @@ fn print_means(sheet: &Sheet) {
     for what in ["add ascending", "add in any order", "remove in any order"] {
         for batch in ["one a batch", "64 a batch", "one batch"] {
             row(format!("{what}, {batch}"), "", &format!("{what} {batch}"));
+        }
+    }
+}
+
+/// How many times as long a question takes with the most rules as with the fewest.
+fn print_growth(sheet: &Sheet) {
+    println!("\nOne more question, from the fewest rules to the most: the archive, the arena tree");
+    for kind in KINDS {
+        let (few, most) = (sizes(kind)[0], sizes(kind)[sizes(kind).len() - 1]);
+        for name in NAMES {
+            let what = format!("question {name}");
+            let time = |size, who| sheet.time(kind, size, &what, who).unwrap_or(f64::NAN);
+            let [ours, theirs] = [WAYS[0], WAYS[3]].map(|who| time(most, who) / time(few, who));
+            println!("{kind:<10} {name:<16} {ours:>6.2} {theirs:>6.2}");
         }
     }
 }

@@ -21,7 +21,7 @@ pub struct Set {
 }
 
 /// The kinds of rules, by name.
-pub const KINDS: [&str; 3] = ["adventure", "siblings", "chains"];
+pub const KINDS: [&str; 4] = ["adventure", "siblings", "scattered", "chains"];
 
 /// The numbers of rules that are tried for a kind.
 pub fn sizes(kind: &str) -> &'static [usize] {
@@ -35,19 +35,25 @@ pub fn sizes(kind: &str) -> &'static [usize] {
 /// The set of a kind with so many rules.
 pub fn set(name: &'static str, size: usize) -> Set {
     let mut random = Random::new(size as u64);
-    let mut terms: Vec<Vec<u16>> = (0..size)
-        .map(|index| match name {
-            "adventure" => adventure(&mut random),
-            "siblings" => vec![0x2001, index as u16, BLANK],
-            _ => chain(index as u16),
-        })
-        .collect();
+    let mut terms: Vec<Vec<u16>> = match name {
+        "scattered" => scattered(&mut random, size),
+        _ => (0..size)
+            .map(|index| match name {
+                "adventure" => adventure(&mut random),
+                "siblings" => vec![0x2001, index as u16, BLANK],
+                _ => chain(index as u16),
+            })
+            .collect(),
+    };
     terms.sort();
     let step = 4_096 / size as u16;
     let numbers = (0..size as u16).map(|index| index * step);
     let rules: Vec<Rule> = numbers.zip(terms).collect();
     let questions = (0..QUESTIONS)
-        .map(|index| question(&mut random, index, &rules))
+        .map(|index| match name {
+            "scattered" if index % 2 == 1 => missing(&mut random, &rules),
+            _ => question(&mut random, index, &rules),
+        })
         .collect();
     Set {
         name,
@@ -92,6 +98,22 @@ fn thing(random: &mut Random, variables: &mut u16) -> u16 {
 /// A number below the end, low ones more often.
 fn low(random: &mut Random, end: usize) -> u16 {
     random.below(end).min(random.below(end)) as u16
+}
+
+/// Siblings whose names are any of the 4,096, each once.
+fn scattered(random: &mut Random, size: usize) -> Vec<Vec<u16>> {
+    let mut names: Vec<u16> = (0..4_096).collect();
+    let draw = |_| vec![0x2001, names.swap_remove(random.below(names.len())), BLANK];
+    (0..size).map(draw).collect()
+}
+
+/// A rule with a name in place of its second cell that no rule has there.
+fn missing(random: &mut Random, rules: &[Rule]) -> Vec<u16> {
+    let mut term = rules[0].1.clone();
+    while rules.iter().any(|rule| rule.1[1] == term[1]) {
+        term[1] = random.below(4_096) as u16;
+    }
+    term
 }
 
 /// A chain of 32 cells that begins with its own symbol.

@@ -2,15 +2,13 @@
 use borrow.Author.Needs.{needs}
 use mathlib.Core.Path.{_≡_}
 use mathlib.Core.Logic.{⊎-elim}
-use Prim.Native.Nat.{ℕ, _≤_, _<_}
+use Prim.Native.Nat.{ℕ, _≤_}
 use native.Mathlib.Omega.{arith}
 use Rattle.tree.specs.Words.{cellOf}
 use Rattle.questions.specs.Promises.{Reach}
+use Rattle.questions.proofs.Leaps.{up-to-it}
 use Rattle.questions.proofs.onward.Statement.{statement}
 use Rattle.questions.proofs.onward.Tie as tie
-
-ahead : (cell c : ℕ) → cell < 32768 → Reach cell c cell
-ahead cell c low = record { low = omega arith; between = λ k l h e. omega arith }
 
 past : (cell c : ℕ) → cell ≤ c → ¬ (c ≡ cell) → Reach cell c 32768
 past cell c h n = record { low = omega arith; between = λ k l m e. n (omega arith) }
@@ -22,7 +20,7 @@ returns : tie.Need-returns
 returns c =
     let t = c .before .before .before in
     let s = t .before .before .before .before .args in
-    record { most = s .cell; reach = ahead (s .cell) (cellOf (s .w)) (t .before .before .if1 .taken); on = c .onward .ensures }
+    record { most = s .cell; reach = up-to-it (s .cell) (cellOf (s .w)) (t .before .before .if1 .taken); on = c .onward .ensures }
 
 reaches : (c : tie.Joined1) → Reach (c .before .before .args .cell) (cellOf (c .before .before .args .w)) 32768
 reaches c =

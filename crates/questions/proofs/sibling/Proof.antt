@@ -11,7 +11,7 @@ use Rattle.tree.specs.Trie.{trie}
 use Rattle.tree.specs.Search.{size}
 use Rattle.tree.specs.Promises.{Further}
 use Rattle.book.specs.Memory.{view}
-use Rattle.questions.specs.Promises.{PassesBy, start, Reach, Sought, reached, beyond, Threaded}
+use Rattle.questions.specs.Promises.{PassesBy, Reach, Sought, reached, beyond, Threaded}
 use Rattle.questions.proofs.Threads.{in-tree}
 use Rattle.questions.proofs.Leaps.{Leapt, leaps, steps}
 use Rattle.questions.proofs.sibling.Statement.{statement}
@@ -24,10 +24,10 @@ abbrev μ-loop : tie.MeasureT-loop
 μ-loop m cell last link x₀ x = size (trie (view m .tree) x)
 
 loop-holds : tie.Need-loop-holds Inv-loop μ-loop
-loop-holds c = (c .before .pre, start)
+loop-holds c = let b = c .at-once .ensures in (b .threaded, b .by)
 
-low : (l : tie.In-loop Inv-loop μ-loop) → (l .before .loop .x ≤ 4608) × (length (l .before .before .before .args .m .now) ≡ 12618)
-low l = (in-tree (l .before .before .before .args .m .now) (l .before .loop .x) (l .before .loop .inv .0) (l .loop-test .taken), l .before .loop .inv .0 .passing .size)
+low : (l : tie.In-loop Inv-loop μ-loop) → (l .before .loop .x ≤ 4608) × (length (l .before .before .before .before .args .m .now) ≡ 12618)
+low l = (in-tree (l .before .before .before .before .args .m .now) (l .before .loop .x) (l .before .loop .inv .0) (l .loop-test .taken), l .before .loop .inv .0 .passing .size)
 
 -- a symbol above the last
 stop : (ws : List ℕ) (cell last link x c : ℕ) → PassesBy ws cell link x → ¬ (x ≡ 0) → c ≡ cellOf (getD ws (72 + x) 0) → c < 32768 → last < c → Sought ws cell last link 0
@@ -36,7 +36,7 @@ stop ws cell last link x c by n e l d = beyond by n (subst (λ (k : ℕ). last <
 returns-3 : tie.Need-returns-3 Inv-loop μ-loop
 returns-3 c =
     let l = c .before .before .before .before .before .before .loop in
-    let s = c .before .before .before .before .before .before .before .before .args in
+    let s = c .before .before .before .before .before .before .before .before .before .args in
     stop (s .m .now) (s .cell) (s .last) (s .link) (l .x) (c .before .before .before .cell-of .result) (l .inv .1) (c .before .before .before .before .before .loop-test .taken) (c .before .before .before .cell-of .ensures) (c .before .if2 .left) (c .if3 .taken)
 
 onward-requires : tie.Need-onward-requires Inv-loop μ-loop
@@ -45,13 +45,13 @@ onward-requires c κs =
     let h = low (k .before .before) in
     ((h .1, h .0), λ e. c .before .before .if1 .left (k .cell-of .ensures ∙ e))
 
-leapt : (c : tie.After-onward Inv-loop μ-loop) → Leapt (c .before .before .before .before .before .before .before .before .before .args .m .now) (c .before .before .before .before .before .before .before .before .before .args .cell) (c .before .before .before .before .before .before .before .before .before .args .link)
+leapt : (c : tie.After-onward Inv-loop μ-loop) → Leapt (c .before .before .before .before .before .before .before .before .before .before .args .m .now) (c .before .before .before .before .before .before .before .before .before .before .args .cell) (c .before .before .before .before .before .before .before .before .before .before .args .link)
     (c .before .before .before .before .before .before .before .loop .x) (c .onward .result)
 leapt c =
     let e = c .before in
     let k = e .before .before .before in
     let l = k .before .before .before .loop in
-    let s = k .before .before .before .before .before .args in
+    let s = k .before .before .before .before .before .before .args in
     let o = c .onward .ensures in
     go (s .m .now) (s .cell) (s .link) (l .x) _ _ (l .inv .0) (k .before .before .loop-test .taken) (λ i. k .before .shared-slice-known2 .given i .fits) (k .cell-of .result) (k .cell-of .ensures) (e .before .if2 .left) (e .before .before .if1 .left)
     (subst (λ (x : ℕ). Reach (s .cell) x (o .most)) (sym (k .cell-of .ensures)) (o .reach)) (o .on) (l .inv .1)
@@ -67,6 +67,7 @@ sibling-spec =
     (tie.spec
     Inv-loop
     μ-loop
+    (λ c κs. search needs)
     loop-holds
     (λ c. let h = low c in omega arith)
     (λ c. let h = low c in omega arith)
