@@ -4,7 +4,7 @@ pub mod Parts
 pub mod Storing
 pub mod Looking
 pub mod Placing
-pub mod Fingers
+pub mod Signs
 pub mod Adding
 pub mod Checking
 pub mod Passing

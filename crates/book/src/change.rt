@@ -29,7 +29,7 @@ pub fn add(m: &mut [u64], number: u16, term: &[u16]) -> Added
     }
     tree::hang(&mut m[0..4681], last, r, crate::wide(number));
     put_record(m, r, number, term);
-    put_fingers(m, r);
+    put_signs(m, r);
     Added::Taken
 }
 
@@ -45,15 +45,16 @@ fn put_record(m: &mut [u64], r: usize, number: u16, term: &[u16])
     crate::record::store(&mut m[at..end], term);
 }
 
-// Puts the fingers that the new rule at the place r calls for. They are hints, and what the book holds does not depend on them.
-fn put_fingers(m: &mut [u64], r: usize)
+// Puts the signs to the new rule at the place r. They are hints, and what the book holds does not depend on them.
+fn put_signs(m: &mut [u64], r: usize)
     requires { ⌜ (length (now m) ≡ 12618) × (r < 512) ⌝ }
     ensures { λ _. ⌜ view (now (m .exit)) ≡ view (now (m .entry)) ⌝ }
 {
-    let at = tree::fingers::highest(&m[0..4681], 4097 + r);
+    let at = tree::signs::highest(&m[0..4681], 4097 + r);
     put_last(m, at);
-    put_slot(m, at);
-    put_lane(m, at);
+    put_sign(m, at, 0);
+    put_sign(m, at, 1);
+    put_sign(m, at, 3);
 }
 
 // The parent of the new node knows it, where it is the last child.
@@ -61,35 +62,17 @@ fn put_last(m: &mut [u64], at: usize)
     requires { ⌜ (length (now m) ≡ 12618) × (at ≤ 4608) ⌝ }
     ensures { λ _. ⌜ view (now (m .exit)) ≡ view (now (m .entry)) ⌝ }
 {
-    let p = tree::fingers::list_ended(&m[0..4681], at);
-    bits::put_field(&mut m[4681..6986], 2 * p + 1, at as u16);
+    let p = tree::signs::list_ended(&m[0..4681], at);
+    bits::put_field(&mut m[4681..6986], p, at as u16);
 }
 
-// Who wants the new node by its cell finds it at once.
-fn put_slot(m: &mut [u64], at: usize)
+// The sign to the new node under the key i, where it has one.
+fn put_sign(m: &mut [u64], at: usize, i: usize)
     requires { ⌜ (length (now m) ≡ 12618) × (at ≤ 4608) ⌝ }
     ensures { λ _. ⌜ view (now (m .exit)) ≡ view (now (m .entry)) ⌝ }
 {
-    let k = tree::fingers::slot_for(&m[0..4681], at);
+    let k = tree::signs::field_for(&m[0..4681], &m[4681..6986], at, i);
     bits::put_field(&mut m[4681..6986], k, at as u16);
-}
-
-// The fingers to the new node, and its own.
-fn put_lane(m: &mut [u64], new: usize)
-    requires { ⌜ (length (now m) ≡ 12618) × (new ≤ 4608) ⌝ }
-    ensures { λ _. ⌜ view (now (m .exit)) ≡ view (now (m .entry)) ⌝ }
-{
-    let f = tree::fingers::fingers_for(&m[0..4681], &m[4681..6986], new);
-    let at = f.at;
-    if at == 0 {
-        return;
-    }
-    let near = f.near;
-    let far = f.far;
-    let behind = f.behind;
-    bits::put_field(&mut m[4681..6986], 2 * at, behind as u16);
-    bits::put_field(&mut m[4681..6986], 2 * near, at as u16);
-    bits::put_field(&mut m[4681..6986], 2 * far, at as u16);
 }
 
 // Removes the rule of a number, with the nodes that no other rule needs.

@@ -59,7 +59,7 @@ module _ (ws : List ℕ) (p : Passing ws) (all : (i : ℕ) → getD ws i 0 < 2 ^
 pub up-to-it : (cell c : ℕ) → cell < 32768 → Reach cell c cell
 up-to-it cell c low = record { low = omega arith; between = λ k l h e. omega arith }
 
--- a finger that leads further on
+-- a sign that leads further on
 pub leaps : (ws : List ℕ) (cell link x most r : ℕ) → Threaded ws x → ¬ (x ≡ 0) → ((i : ℕ) → getD ws i 0 < 2 ^ 64) → (c : ℕ) → c ≡ cellOf (getD ws (72 + x) 0) → Reach cell c most → Further (view ws .tree) (getD ws (72 + x) 0) most r
     → PassesBy ws cell link x → Leapt ws cell link x r
 leaps ws cell link zero most r t n all c ec reach f by = absurd (n refl)

@@ -139,22 +139,23 @@ pub fn place_points(w: u64, p: Point, t: Decision, depth: usize) -> Points
     stack(beside, below, depth)
 }
 
-// The sibling to look at after x, which has the word w: a leap goes not past the cell wanted, nor past the blank, which is the last.
-fn onward(m: &[u64], cell: u64, x: usize, w: u64) -> usize
-    requires { ⌜ (length (now m) ≡ 12618) × (x ≤ 4608) ⌝ }
+// The sibling to look at after the node with the word w: the next, as long as a symbol wanted is ahead; else the last, if it is known,
+// since it alone may be a blank.
+fn onward(m: &[u64], cell: u64, w: u64) -> usize
+    requires { ⌜ length (now m) ≡ 12618 ⌝ }
     requires { ⌜ (cellOf w ≡ cell → ⊥) ⌝ }
     ensures { λ r. ⌜ Onwards (now (m .entry)) cell w r ⌝ }
 {
     if cell < 0x8000 {
         if tree::cell_of(w) < cell {
-            return tree::fingers::onward(&m[0..4681], &m[4681..6986], x, w, cell);
+            return tree::next_of(w) as usize;
         }
     }
-    tree::fingers::to_last(&m[0..4681], &m[4681..6986], x, w)
+    tree::signs::to_last(&m[0..4681], &m[4681..6986], w)
 }
 
-// Where to begin looking for the cell from the link on: at once where it is known, or some way on, or at the link.
-fn at_once(m: &[u64], cell: u64, link: usize) -> usize
+// Where to begin looking for the cell from the link on: where a sign leads to it or near it, or at the link.
+fn leap(m: &[u64], cell: u64, link: usize) -> usize
     requires { ⌜ Threaded (now m) link ⌝ }
     ensures { λ r. ⌜ Begins (now (m .entry)) cell link r ⌝ }
 {
@@ -171,16 +172,16 @@ fn at_once(m: &[u64], cell: u64, link: usize) -> usize
     if tree::next_of(w) == 0 {
         return link;
     }
-    tree::fingers::known(&m[0..4681], &m[4681..6986], link, w, cell)
+    tree::signs::known(&m[0..4681], &m[4681..6986], link, w, cell)
 }
 
 // The first sibling from the link on whose cell is the one wanted, or that is a blank; none where a symbol above `last` comes
-// before. Most siblings are passed here, at one load each and nothing stored, and long lists of them by leaps.
+// before. Siblings are passed here at one load each and nothing stored, and long lists of them by a leap.
 fn sibling(m: &[u64], cell: u64, last: u64, link: usize) -> usize
     requires { ⌜ Threaded (now m) link ⌝ }
     ensures { λ r. ⌜ Sought (now (m .entry)) cell last link r ⌝ }
 {
-    let mut x = at_once(m, cell, link);
+    let mut x = leap(m, cell, link);
     while x != 0 {
         let w = m[72 + x];
         let c = tree::cell_of(w);
@@ -193,7 +194,7 @@ fn sibling(m: &[u64], cell: u64, last: u64, link: usize) -> usize
         if last < c {
             return 0;
         }
-        x = onward(m, cell, x, w);
+        x = onward(m, cell, w);
     }
     x
 }

@@ -9,7 +9,7 @@
 // The two maps are one: rule r hangs in the tree as the node 4,096 + r, and its number is its cell. Nodes of forms are below
 // 4,096, numbers of nodes below 4,608. Parent, first child and next sibling are links; 0 is the root or none. Siblings ascend
 // by cell.
-pub mod fingers;
+pub mod signs;
 
 ghost use mathlib.Core.Path.{_≡_};
 ghost use mathlib.Core.List.{reverse};

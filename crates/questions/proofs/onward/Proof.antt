@@ -1,7 +1,7 @@
 -- Up to the symbol wanted where it is ahead; else up to the last, the blank, since the siblings ahead are past it.
 use borrow.Author.Needs.{needs}
 use mathlib.Core.Path.{_≡_}
-use mathlib.Core.Logic.{⊎-elim}
+use mathlib.Core.Logic.{⊎-elim, inl}
 use Prim.Native.Nat.{ℕ, _≤_}
 use native.Mathlib.Omega.{arith}
 use Rattle.tree.specs.Words.{cellOf}
@@ -19,8 +19,8 @@ no-symbol cell c h = record { low = omega arith; between = λ k l m e. omega ari
 returns : tie.Need-returns
 returns c =
     let t = c .before .before .before in
-    let s = t .before .before .before .before .args in
-    record { most = s .cell; reach = up-to-it (s .cell) (cellOf (s .w)) (t .before .before .if1 .taken); on = c .onward .ensures }
+    let s = t .before .before .args in
+    record { most = s .cell; reach = up-to-it (s .cell) (cellOf (s .w)) (t .if1 .taken); on = inl (c .next-of .ensures) }
 
 reaches : (c : tie.Joined1) → Reach (c .before .before .args .cell) (cellOf (c .before .before .args .w)) 32768
 reaches c =
@@ -38,12 +38,6 @@ onward-spec =
     tie.close
     (tie.spec
     (λ c κs. search needs)
-    (λ c. search needs)
-    (λ c. search needs)
-    (λ c. search needs)
-    (λ c. search needs)
-    (λ c. search needs)
-    (λ c. search needs)
     (λ c κs. search needs)
     returns
     (λ c. search needs)

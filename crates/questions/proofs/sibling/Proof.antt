@@ -24,7 +24,7 @@ abbrev μ-loop : tie.MeasureT-loop
 μ-loop m cell last link x₀ x = size (trie (view m .tree) x)
 
 loop-holds : tie.Need-loop-holds Inv-loop μ-loop
-loop-holds c = let b = c .at-once .ensures in (b .threaded, b .by)
+loop-holds c = let b = c .leap .ensures in (b .threaded, b .by)
 
 low : (l : tie.In-loop Inv-loop μ-loop) → (l .before .loop .x ≤ 4608) × (length (l .before .before .before .before .args .m .now) ≡ 12618)
 low l = (in-tree (l .before .before .before .before .args .m .now) (l .before .loop .x) (l .before .loop .inv .0) (l .loop-test .taken), l .before .loop .inv .0 .passing .size)
@@ -43,7 +43,7 @@ onward-requires : tie.Need-onward-requires Inv-loop μ-loop
 onward-requires c κs =
     let k = c .before .before .before in
     let h = low (k .before .before) in
-    ((h .1, h .0), λ e. c .before .before .if1 .left (k .cell-of .ensures ∙ e))
+    (h .1, λ e. c .before .before .if1 .left (k .cell-of .ensures ∙ e))
 
 leapt : (c : tie.After-onward Inv-loop μ-loop) → Leapt (c .before .before .before .before .before .before .before .before .before .before .args .m .now) (c .before .before .before .before .before .before .before .before .before .before .args .cell) (c .before .before .before .before .before .before .before .before .before .before .args .link)
     (c .before .before .before .before .before .before .before .loop .x) (c .onward .result)

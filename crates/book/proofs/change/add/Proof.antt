@@ -12,7 +12,7 @@ use Rattle.book.specs.Memory.{formOf, rulesIn}
 use Rattle.book.proofs.Looking.{tree-long}
 use Rattle.book.proofs.Parts.{front-is}
 use Rattle.book.specs.Promises.{Adds}
-use Rattle.book.proofs.Fingers.{with-fingers}
+use Rattle.book.proofs.Signs.{with-signs}
 use Rattle.book.proofs.Placing.{not-placed, placed, TreeOnly, tree-only}
 use Rattle.book.proofs.Adding.{held-already, book-full, place-low, term-whole, sound, no-nodes, hangable, taken-now, row-form}
 use Rattle.book.proofs.change.add.Statement.{statement}
@@ -161,8 +161,8 @@ module _ (q : tie.After-put-record) where
       (p .plant .last .0) (p .plant .result) _ (form-is r) (p .plant .ensures) (h .before .before .before .if3 .left)
       (h .hang .last .0) _ (q .put-record .last .0) _ (one p) (hung h) (two h) (q .put-record .ensures) long
 
-put-fingers-requires : tie.Need-put-fingers-requires
-put-fingers-requires c κs =
+put-signs-requires : tie.Need-put-signs-requires
+put-signs-requires c κs =
     let q = c .before .before .before in
     let p = plants q in
     let f = free-at p in
@@ -173,7 +173,7 @@ returns-4 : tie.Need-returns-4
 returns-4 c =
     let g = c .before .before in
     let q = g .before .before .before .before in
-    with-fingers (takes q) (g .put-fingers .ensures) (g .put-fingers .kept .0)
+    with-signs (takes q) (g .put-signs .ensures) (g .put-signs .kept .0)
 
 pub add-spec : {M : Type 1} → statement M
 add-spec =
@@ -204,6 +204,6 @@ add-spec =
     (λ c κs. search needs)
     hang-requires
     put-record-requires
-    put-fingers-requires
+    put-signs-requires
     (λ c. search needs)
     returns-4)

@@ -1,6 +1,6 @@
--- One field is put among the fingers, and nothing else is met.
+-- One field is put among the signs, and nothing else is met.
 use borrow.Author.Needs.{needs}
-use Rattle.book.proofs.Fingers.{fingers-only, written}
+use Rattle.book.proofs.Signs.{signs-only, written}
 use Rattle.book.proofs.change.put_last.Statement.{statement}
 use Rattle.book.proofs.change.put_last.Tie as tie
 
@@ -8,7 +8,7 @@ returns : tie.Need-returns
 returns c =
     let f = c .before .before in
     let s = f .before .before .before .before .before .before in
-    fingers-only (written (s .args .m .now) (f .put-field .last .0) (s .pre .0) (f .put-field .kept .0))
+    signs-only (written (s .args .m .now) (f .put-field .last .0) (s .pre .0) (f .put-field .kept .0))
 
 pub put-last-spec : {M : Type 1} → statement M
 put-last-spec =
@@ -18,8 +18,6 @@ put-last-spec =
     (λ c. search needs)
     (λ c. search needs)
     (λ c κs. search needs)
-    (λ c. search needs)
-    (λ c. search needs)
     (λ c. search needs)
     (λ c. search needs)
     (λ c. search needs)

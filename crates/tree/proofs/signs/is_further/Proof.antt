@@ -3,17 +3,17 @@ use mathlib.Core.Path.{refl}
 use Rattle.term.specs.Counting.{true≢false}
 use Rattle.tree.proofs.Leaping.{looked-at}
 use borrow.Author.Needs.{needs}
-use Rattle.tree.proofs.fingers.is_further.Statement.{statement}
-use Rattle.tree.proofs.fingers.is_further.Tie as tie
+use Rattle.tree.proofs.signs.is_further.Statement.{statement}
+use Rattle.tree.proofs.signs.is_further.Tie as tie
 
-returns-6 : tie.Need-returns-6
-returns-6 c r =
-    let k = c .before .before .before in
-    let s = c .before .before .before .before .before .before .before .before .before .before .before .before .before .before in
+returns-7 : tie.Need-returns-7
+returns-7 c r =
+    let k = c .before .before .before .before .before in
+    let s = k .before .before .before .before .before .before .before .before .before .before .before in
     let p = k .before .before .before .before .before in
-    looked-at (s .args .m .now) (s .args .w) (s .args .most) (s .args .f) (c .before .before .before .before .before .before .before .before .before .before .before .before .if1 .left) _ _ _ _ _
+    looked-at (s .args .m .now) (s .args .w) (s .args .most) (s .args .f) (k .before .before .before .before .before .before .before .before .before .if1 .left) _ _ _ _ _
     (p .before .parent-of .ensures) (p .parent-of2 .ensures) (k .before .before .before .before .if3 .left) (k .before .before .before .cell-of .ensures) (k .before .before .cell-of2 .ensures) (k .before .if4 .left)
-    (k .cell-of3 .ensures) (c .before .before .if5 .left) (c .is-marked .result) (c .is-marked .ensures) r
+    (k .cell-of3 .ensures) (c .before .before .before .before .if5 .left) (c .is-marked .result) (c .is-marked .ensures) r
 
 pub is-further-spec : {M : Type 1} → statement M
 is-further-spec =
@@ -32,9 +32,11 @@ is-further-spec =
     (λ c e. absurd (true≢false e refl))
     (λ c κs. search needs)
     (λ c e. absurd (true≢false e refl))
+    (λ c κs. search needs)
+    (λ c e. absurd (true≢false e refl))
     (λ c. search needs)
     (λ c. search needs)
     (λ c. search needs)
     (λ c. search needs)
     (λ c κs. search needs)
-    returns-6)
+    returns-7)

@@ -12,8 +12,8 @@ use Rattle.book.specs.Memory.{view}
 use Rattle.questions.specs.Promises.{start, Begins, Threaded}
 use Rattle.questions.proofs.Threads.{in-tree}
 use Rattle.questions.proofs.Leaps.{Leapt, leaps, up-to-it}
-use Rattle.questions.proofs.at_once.Statement.{statement}
-use Rattle.questions.proofs.at_once.Tie as tie
+use Rattle.questions.proofs.leap.Statement.{statement}
+use Rattle.questions.proofs.leap.Tie as tie
 
 here : (ws : List ℕ) (cell link : ℕ) → Threaded ws link → Begins ws cell link link
 here ws cell link t = record { threaded = t; by = start }
@@ -32,8 +32,8 @@ returns-5 c =
     let s = e .before .before .before in
     springs (s .args .m .now) (s .args .cell) (s .args .link) (c .known .result) (s .pre) (e .before .if1 .left) (λ i. t .shared-slice-known2 .given i .fits) (e .if2 .left) (c .known .ensures)
 
-pub at-once-spec : {M : Type 1} → statement M
-at-once-spec =
+pub leap-spec : {M : Type 1} → statement M
+leap-spec =
     tie.close
     (tie.spec
     (λ c. here _ _ _ (c .before .before .pre))

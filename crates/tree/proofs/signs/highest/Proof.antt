@@ -1,34 +1,33 @@
--- Each step is at a link of the memory
-use Prim.Native.Nat.{_-_}
+-- At most 33 levels, each at a link of the memory
+use Prim.Native.Nat.{_-_, _≤_}
 use borrow.Author.Needs.{needs}
-use Rattle.tree.proofs.fingers.behind.Statement.{statement}
-use Rattle.tree.proofs.fingers.behind.Tie as tie
+use Rattle.tree.proofs.signs.highest.Statement.{statement}
+use Rattle.tree.proofs.signs.highest.Tie as tie
 
 abbrev Inv-loop : tie.InvT-loop
-Inv-loop m l c far x₀ steps₀ x steps = Unit {0}
+Inv-loop m last l₀ steps₀ l steps = l ≤ 4608
 
 abbrev μ-loop : tie.MeasureT-loop
-μ-loop m l c far x₀ steps₀ x steps = 512 - steps
+μ-loop m last l₀ steps₀ l steps = 33 - steps
 
-pub behind-spec : {M : Type 1} → statement M
-behind-spec =
+pub highest-spec : {M : Type 1} → statement M
+highest-spec =
     tie.close
     (tie.spec Inv-loop μ-loop
-    (λ c κs. search needs)
-    (λ c. search needs)
-    (λ c. search needs)
-    (λ c. search needs)
-    (λ c κs. search needs)
-    (λ c. search needs)
-    (λ c. search needs)
     (λ c. search needs)
     (λ c. search needs)
     (λ c. search needs)
     (λ c. search needs)
     (λ c κs. search needs)
-    (λ c κs. search needs)
     (λ c. search needs)
     (λ c κs. search needs)
+    (λ c. search needs)
+    (λ c. search needs)
+    (λ c. search needs)
+    (λ c. search needs)
+    (λ c. search needs)
+    (λ c κs. search needs)
+    (λ c. search needs)
     (λ c. search needs)
     (λ c. search needs)
     (λ c. search needs)

@@ -1,0 +1,223 @@
+// Signs: hints that lead to a child of a node past its siblings, so that a question need not walk along long lists of them.
+//
+// They stand in 2,305 words of their own, as fields of 16 bits:
+//
+//   field 0 to 4,096        the last child of link l
+//   field 4,100 to 9,219    the signs: a parent and a key give the place of a child's link
+//
+// A child that came in beside others has up to three: by its own cell, and where it is the first of its group, by the 16 or the 256
+// cells around it. Different keys may share a place, and then the later one has it.
+//
+// A sign is a hint: who follows one looks first where it leads. So the check doesn't read them, removing a rule leaves them, and a
+// wrong one costs time and never an answer.
+ghost use mathlib.Core.Path.{_≡_};
+ghost use mathlib.Core.Bool.{true};
+ghost use Prim.Native.Nat.{_≤_, _<_};
+ghost use lib.ListN.{length};
+ghost use Rattle.tree.specs.Words.{shape};
+ghost use Rattle.tree.specs.Promises.{Further, Onward, Leap};
+
+// The field of the sign for a parent and a key. The factors spread keys that follow each other in any steps.
+fn sign(p: u64, key: u64) -> usize
+    ensures { λ r. ⌜ r < 9220 ⌝ }
+{
+    let spread = (p % 65536 * 31153 + key % 65536 * 40503) % 65536;
+    4100 + (spread * 5120 / 65536) as usize
+}
+
+// The keys for a cell, a symbol's, in the order in which they are tried: the cell; its group of 16 and the one before; its group
+// of 256 and the one before.
+fn key(c: u64, i: usize) -> u64 {
+    if i == 0 {
+        return c;
+    }
+    if i == 1 {
+        return 36864 + c % 65536 / 16;
+    }
+    if i == 2 {
+        return 36863 + c % 65536 / 16;
+    }
+    if i == 3 {
+        return 45056 + c % 65536 / 256;
+    }
+    45055 + c % 65536 / 256
+}
+
+// The lowest cell that is followed under a key.
+fn least(c: u64, i: usize) -> u64 {
+    if i == 0 {
+        return c;
+    }
+    0
+}
+
+// Does the link f lead to a sibling further on than the node with the word w, with a cell from `least` to `most`?
+fn is_further(m: &[u64], w: u64, f: usize, least: u64, most: u64) -> bool
+    requires { ⌜ length (now m) ≡ 4681 ⌝ }
+    ensures { λ r. ⌜ (r ≡ true → Further (shape (now (m .entry))) w most f) ⌝ }
+{
+    if f == 0 {
+        return false;
+    }
+    if 4608 < f {
+        return false;
+    }
+    let v = m[72 + f];
+    if crate::parent_of(v) != crate::parent_of(w) {
+        return false;
+    }
+    if crate::cell_of(v) <= crate::cell_of(w) {
+        return false;
+    }
+    if most < crate::cell_of(v) {
+        return false;
+    }
+    if crate::cell_of(v) < least {
+        return false;
+    }
+    bits::is_marked(&m[0..72], f - 1)
+}
+
+// From the node x with the word w, which has a cell below c: to the sibling with the cell c, or to one not far before it, if a sign
+// leads there; else to x itself.
+pub fn known(m: &[u64], signs: &[u64], x: usize, w: u64, c: u64) -> usize
+    requires { ⌜ length (now m) ≡ 4681 ⌝ }
+    requires { ⌜ length (now signs) ≡ 2305 ⌝ }
+    ensures { λ r. ⌜ Leap (shape (now (m .entry))) x w c r ⌝ }
+{
+    let mut i: usize = 0;
+    while i < 5 {
+        let f = bits::field(signs, sign(crate::parent_of(w), key(c, i))) as usize;
+        if is_further(m, w, f, least(c, i), c) {
+            return f;
+        }
+        i += 1;
+    }
+    x
+}
+
+// What the parent of the node with the word w knows as its last child.
+fn last_beside(signs: &[u64], w: u64) -> usize
+    requires { ⌜ length (now signs) ≡ 2305 ⌝ }
+{
+    let p = crate::parent_of(w) as usize;
+    if 4096 < p {
+        return 0;
+    }
+    bits::field(signs, p) as usize
+}
+
+// From the node with the word w to the last child of its parent, which is the blank if there is one, or to the next sibling.
+pub fn to_last(m: &[u64], signs: &[u64], w: u64) -> usize
+    requires { ⌜ length (now m) ≡ 4681 ⌝ }
+    requires { ⌜ length (now signs) ≡ 2305 ⌝ }
+    ensures { λ r. ⌜ Onward (shape (now (m .entry))) w 32768 r ⌝ }
+{
+    let l = last_beside(signs, w);
+    if is_further(m, w, l, 0, 0x8000) {
+        return l;
+    }
+    crate::next_of(w) as usize
+}
+
+// Going up from the node `last`, past those that are the only child: the node that came in beside others. A new rule's nodes came
+// in one below the other, and this is the only one with siblings.
+pub fn highest(m: &[u64], last: usize) -> usize
+    requires { ⌜ length (now m) ≡ 4681 ⌝ }
+    requires { ⌜ last ≤ 4608 ⌝ }
+    ensures { λ r. ⌜ r ≤ 4608 ⌝ }
+{
+    let mut l = last;
+    let mut steps: usize = 0;
+    while steps < 33 {
+        let w = m[72 + l];
+        if crate::next_of(w) != 0 {
+            return l;
+        }
+        let p = crate::parent_of(w) as usize;
+        if p == 0 {
+            return l;
+        }
+        if 4608 < p {
+            return l;
+        }
+        if crate::first_of(m[72 + p]) as usize != l {
+            return l;
+        }
+        l = p;
+        steps += 1;
+    }
+    l
+}
+
+// The link whose last child the node `at` is, or 4,097, a field that nobody reads.
+pub fn list_ended(m: &[u64], at: usize) -> usize
+    requires { ⌜ length (now m) ≡ 4681 ⌝ }
+    requires { ⌜ at ≤ 4608 ⌝ }
+    ensures { λ r. ⌜ r ≤ 4097 ⌝ }
+{
+    let w = m[72 + at];
+    let p = crate::parent_of(w) as usize;
+    if crate::next_of(w) != 0 {
+        return 4097;
+    }
+    if 4096 < p {
+        return 4097;
+    }
+    p
+}
+
+// Is the link f that of a child in use of the parent that w has, with a cell from `least` up to that of w?
+fn is_before(m: &[u64], w: u64, f: usize, least: u64) -> bool
+    requires { ⌜ length (now m) ≡ 4681 ⌝ }
+{
+    if f == 0 {
+        return false;
+    }
+    if 4608 < f {
+        return false;
+    }
+    let v = m[72 + f];
+    if crate::parent_of(v) != crate::parent_of(w) {
+        return false;
+    }
+    if crate::cell_of(w) < crate::cell_of(v) {
+        return false;
+    }
+    if crate::cell_of(v) < least {
+        return false;
+    }
+    bits::is_marked(&m[0..72], f - 1)
+}
+
+// The field of the sign under the key i for the new node `at`, or 4,097, which nobody reads, where it has none: rules have none, and
+// the sign of a group stays with its first child.
+pub fn field_for(m: &[u64], signs: &[u64], at: usize, i: usize) -> usize
+    requires { ⌜ length (now m) ≡ 4681 ⌝ }
+    requires { ⌜ length (now signs) ≡ 2305 ⌝ }
+    requires { ⌜ at ≤ 4608 ⌝ }
+    ensures { λ r. ⌜ r < 9220 ⌝ }
+{
+    if 4096 < at {
+        return 4097;
+    }
+    let w = m[72 + at];
+    let c = crate::cell_of(w);
+    let k = sign(crate::parent_of(w), key(c, i));
+    let f = bits::field(signs, k) as usize;
+    if is_before(m, w, f, group_start(c, i)) {
+        return 4097;
+    }
+    k
+}
+
+// The first cell of the group of c under the key i.
+fn group_start(c: u64, i: usize) -> u64 {
+    if i == 0 {
+        return c;
+    }
+    if i == 1 {
+        return c / 16 * 16;
+    }
+    c / 256 * 256
+}
