@@ -167,31 +167,8 @@ pub fn list_ended(m: &[u64], at: usize) -> usize
     p
 }
 
-// Is the link f that of a child in use of the parent that w has, with a cell from `least` up to that of w?
-fn is_before(m: &[u64], w: u64, f: usize, least: u64) -> bool
-    requires { ⌜ length (now m) ≡ 4681 ⌝ }
-{
-    if f == 0 {
-        return false;
-    }
-    if 4608 < f {
-        return false;
-    }
-    let v = m[72 + f];
-    if crate::parent_of(v) != crate::parent_of(w) {
-        return false;
-    }
-    if crate::cell_of(w) < crate::cell_of(v) {
-        return false;
-    }
-    if crate::cell_of(v) < least {
-        return false;
-    }
-    bits::is_marked(&m[0..72], f - 1)
-}
-
 // The field of the sign under the key i for the new node `at`, or 4,097, which nobody reads, where it has none: rules have none, and
-// the sign of a group stays with its first child.
+// the sign of a group stays with its first child. That is one further on than a node with the same parent and the cell 0.
 pub fn field_for(m: &[u64], signs: &[u64], at: usize, i: usize) -> usize
     requires { ⌜ length (now m) ≡ 4681 ⌝ }
     requires { ⌜ length (now signs) ≡ 2305 ⌝ }
@@ -205,7 +182,7 @@ pub fn field_for(m: &[u64], signs: &[u64], at: usize, i: usize) -> usize
     let c = crate::cell_of(w);
     let k = sign(crate::parent_of(w), key(c, i));
     let f = bits::field(signs, k) as usize;
-    if is_before(m, w, f, group_start(c, i)) {
+    if is_further(m, w % 281474976710656, f, group_start(c, i), c) {
         return 4097;
     }
     k
