@@ -8,3 +8,9 @@ pub mod Fingers
 pub mod Adding
 pub mod Checking
 pub mod Passing
+pub mod Coming
+pub mod Downing
+pub mod Ruling
+pub mod Along
+pub mod Ending
+pub mod Plainly

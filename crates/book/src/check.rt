@@ -7,7 +7,7 @@ use term::reading;
 use term::reading::Reading;
 
 // Do the cells begin with one whole term of this size?
-fn is_whole(cells: &[u16], size: usize) -> bool
+pub fn is_whole(cells: &[u16], size: usize) -> bool
     ensures { λ r. ⌜ IsWhole (now (cells .entry)) size r ⌝ }
 {
     match reading::read(cells, 0) {

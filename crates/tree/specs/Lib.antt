@@ -21,6 +21,8 @@ pub mod Unlink
 pub mod Partly
 pub mod Plant
 -- .. of the check, and of the layout.
+pub mod Down
+pub mod Stops
 pub mod Check
 pub mod Limits
 -- Between the functions of this crate.
