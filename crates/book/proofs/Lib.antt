@@ -7,7 +7,6 @@ pub mod Placing
 pub mod Fingers
 pub mod Adding
 pub mod Checking
-pub mod Passing
 pub mod Coming
 pub mod Downing
 pub mod Ruling
