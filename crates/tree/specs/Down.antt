@@ -2,16 +2,15 @@
 -- and in a tree it never comes to a node that is not left
 use mathlib.Core.Path.{_≡_, refl, sym, ap, _∙_, subst}
 use mathlib.Core.Logic.{_⊎_, inl, inr}
-use mathlib.Core.List.{List, [], _∷_, _++_, map, List·Memᴰ, List·Memᴰ·head, List·Memᴰ·tail, List·Memᴰ·cases-cons, List·Memᴰ·not-nil, Memᴰ·cast}
+use mathlib.Core.List.{List, [], _∷_, List·Memᴰ, List·Memᴰ·head, List·Memᴰ·tail, List·Memᴰ·cases-cons, List·Memᴰ·not-nil}
 use mathlib.Core.Bool.{Bool, true, false}
-use Prim.Native.Nat.{ℕ, zero, suc, _≤_, _<_}
+use Prim.Native.Nat.{ℕ, zero, suc, _≤_}
 use native.Mathlib.Omega.{arith}
 use native.Mathlib.Decide.{ℕ-discrete}
 use native.Mathlib.Nat.{suc-inj}
-use lib.ListN.{length}
 use Rattle.term.specs.Beginnings.{Distinct}
 use Rattle.term.specs.Counting.{true≢false}
-use Rattle.tree.specs.Shape.{Shape, Place, child, after, Used, Live, Valid, to, owner, floor, Suits, Fits, Source, Up, top, down, Tree}
+use Rattle.tree.specs.Shape.{Shape, Place, child, after, Used, Valid, to, owner, floor, Fits, Up, down, Tree}
 use Rattle.tree.specs.Order.{one-source}
 use Rattle.tree.specs.Unfolded.{reach}
 

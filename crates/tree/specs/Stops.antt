@@ -1,11 +1,11 @@
 -- Where the walk down stands: only the next siblings along its way are before it, so that a stack of them is all that it keeps
-use mathlib.Core.Path.{_≡_, refl, sym, ap, _∙_, subst}
+use mathlib.Core.Path.{_≡_, refl, sym, ap, subst}
 use mathlib.Core.Logic.{_⊎_, inl, inr}
 use mathlib.Core.List.{List, [], _∷_, _++_, map}
 use mathlib.Core.Bool.{Bool, true, false}
-use Prim.Native.Nat.{ℕ, zero, suc, _+_, _≤_, _<_}
+use Prim.Native.Nat.{ℕ, zero, suc, _+_, _≤_}
 use native.Mathlib.Omega.{arith}
-use lib.ListN.{length, length-append}
+use lib.ListN.{length}
 use Rattle.tree.specs.Shape.{Shape, Place, child, after, Used, to, owner, floor, Up, top, down, On, here, above, Tree}
 use Rattle.tree.specs.Rows.{on-trans, up-child}
 use Rattle.tree.specs.Down.{Walking, start, pass, enter, swap}
