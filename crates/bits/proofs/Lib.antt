@@ -1,7 +1,6 @@
 -- Why the code computes what the contracts say.
 pub mod Stores
 pub mod Counting
-pub mod Passing
 pub mod Searching
 pub mod Comparing
 pub mod Numbering

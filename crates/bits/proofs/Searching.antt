@@ -2,13 +2,13 @@
 use mathlib.Core.Path.{_≡_, sym, ap, ap₂, _∙_, subst}
 use mathlib.Core.List.{List}
 use Prim.Native.Nat.{ℕ, suc, _+_, _-_, _*_, _/_, _%_, _^_, _≤_, _<_}
-use native.Mathlib.Nat.{mod-lt, mod-eq-of-lt, mul-one, mul-assoc, mul-mod-left, add-mul-mod-self-right, zero-add, zero-mul, zero-div, div-eq-of-lt, div-eq-of-lt-le, lt-of-lt-of-le}
+use native.Mathlib.Nat.{mod-lt, mul-one, mul-mod-left, zero-mul, zero-div, div-eq-of-lt, div-eq-of-lt-le, lt-of-lt-of-le}
 use native.Mathlib.Decide.{decLt}
 use native.Mathlib.Omega.{arith}
 use lib.ListN.{length, getD}
-use lib.Pow.{pow-pos, pow-add, pow-mono, split, field, mod-mod-pow, high, shr-lt, shr-shr, shl-shr, ones-split, ones-sub-lt, le-ones}
+use lib.Pow.{pow-pos, pow-mono, split, field, mod-mod-pow, high, shr-lt, shr-shr, shl-shr, ones-split, ones-sub-lt, le-ones}
 use lib.Count.{leadingZeros, leading-top}
-use Rattle.bits.specs.Packed.{parts, bits, Skipped, First, NextWord, restOf, Spotted}
+use Rattle.bits.specs.Packed.{parts, bits, Skipped, First}
 use Rattle.bits.specs.Laws.{length-parts, get-parts, parts-zero, at-word, length-bits, get-bit}
 
 -- ---- one word: bit i from the top
@@ -52,7 +52,7 @@ module _ (w s : ℕ) (l : s < 64) where
           omega (arith, parts-zero 1 64 (k - s), q)
 
   -- the first set bit stands in the word: else the word would lie below its clear low bits
-  pub left-low : ¬ ((w * 2 ^ s) % 2 ^ 64 ≡ 0) → s + leadingZeros 64 ((w * 2 ^ s) % 2 ^ 64) < 64
+  left-low : ¬ ((w * 2 ^ s) % 2 ^ 64 ≡ 0) → s + leadingZeros 64 ((w * 2 ^ s) % 2 ^ 64) < 64
   left-low nz = go (decLt (s + leadingZeros 64 ((w * 2 ^ s) % 2 ^ 64)) 64)
     where
       top : (j : ℕ) × (leadingZeros 64 ((w * 2 ^ s) % 2 ^ 64) + suc j ≡ 64) × (2 ^ j ≤ (w * 2 ^ s) % 2 ^ 64) × ((w * 2 ^ s) % 2 ^ 64 < 2 ^ suc j)
@@ -177,116 +177,7 @@ module _ (v : ℕ) (ws : List ℕ) (from n q s r : ℕ) (at : n ≡ q * 64 + s) 
 pub none-found : (v : ℕ) (ws : List ℕ) (from n : ℕ) → from ≤ n → n ≡ 64 * length ws → Skipped v (bits ws) from n → First v (bits ws) from n
 none-found v ws from n a e s = record { after = a; within = omega (arith, length-bits ws); before = s; here = λ h. absurd (omega (arith, length-bits ws)) }
 
--- ---- words that are zero
+-- ---- a word that is zero
 
 pub zero-bit : (ws : List ℕ) (k : ℕ) → getD ws (k / 64) 0 ≡ 0 → getD (bits ws) k 0 ≡ 0
 zero-bit ws k z = get-bit ws k ∙ ap (λ (w : ℕ). w / 2 ^ (63 - k % 64) % 2) z ∙ ap (λ (x : ℕ). x % 2) (zero-div (2 ^ (63 - k % 64)))
-
-module _ (ws : List ℕ) (from q i : ℕ) (s : Skipped 1 (bits ws) from (q * 64 + 64)) (n : NextWord ws (q + 1) i) where
-  pub words-passed : Skipped 1 (bits ws) from (i * 64)
-  words-passed k a b e = go (decLt k (q * 64 + 64))
-    where
-      go : Dec (k < q * 64 + 64) → ⊥
-      go (yes l) = s k a l e
-      go (no l) = let z = zero-bit ws k (n .zeros (k / 64) (omega arith) (omega arith)) in omega arith
-
-  -- the first word behind them that is not zero has the bit
-  pub in-word : from ≤ q * 64 + 64 → i < length ws → getD ws i 0 < 2 ^ 64 → First 1 (bits ws) from (i * 64 + leadingZeros 64 (getD ws i 0))
-  in-word a h b =
-      found 1 ws from (i * 64) i 0 (leadingZeros 64 (getD ws i 0)) (omega arith) (omega arith) (let c = n .after in omega arith) h words-passed
-      (subst (First 1 (parts 1 64 (getD ws i 0)) 0) same (one-left (getD ws i 0) 0 (omega arith) (λ z. n .here h (sym whole ∙ z)))) low
-    where
-      whole : (getD ws i 0 * 2 ^ 0) % 2 ^ 64 ≡ getD ws i 0
-      whole = ap (λ (x : ℕ). x % 2 ^ 64) (mul-one (getD ws i 0)) ∙ mod-eq-of-lt b
-
-      same : 0 + leadingZeros 64 ((getD ws i 0 * 2 ^ 0) % 2 ^ 64) ≡ leadingZeros 64 (getD ws i 0)
-      same = zero-add _ ∙ ap (leadingZeros 64) whole
-
-      low : leadingZeros 64 (getD ws i 0) < 64
-      low = let t = leading-top 64 (getD ws i 0) (omega (arith, n .here h)) b in omega (arith, t .1)
-
-  pub no-word : from ≤ q * 64 + 64 → length ws ≤ i → First 1 (bits ws) from (i * 64)
-  no-word a h = none-found 1 ws from (i * 64) (let c = n .after in omega arith) (let c = n .within in omega arith) words-passed
-
--- ---- the rest of a word behind a set bit
-
-spread : (q c r t : ℕ) → (q * c + r) * t ≡ r * t + (q * t) * c
-spread q c r t = omega arith
-
-shift-on : (a t : ℕ) → (a % 2 ^ 64 * 2 ^ t) % 2 ^ 64 ≡ (a * 2 ^ t) % 2 ^ 64
-shift-on a t =
-    sym (ap (λ (x : ℕ). (x * 2 ^ t) % 2 ^ 64) (sym (split a 64)) ∙ ap (λ (x : ℕ). x % 2 ^ 64) (spread (a / 2 ^ 64) (2 ^ 64) (a % 2 ^ 64) (2 ^ t))
-    ∙ add-mul-mod-self-right (a % 2 ^ 64 * 2 ^ t) (a / 2 ^ 64 * 2 ^ t) (2 ^ 64))
-
--- two shifts are one
-shift-twice : (w s t : ℕ) → ((w * 2 ^ s) % 2 ^ 64 * 2 ^ t) % 2 ^ 64 ≡ (w * 2 ^ (s + t)) % 2 ^ 64
-shift-twice w s t = shift-on (w * 2 ^ s) t ∙ ap (λ (x : ℕ). x % 2 ^ 64) (mul-assoc w (2 ^ s) (2 ^ t) ∙ ap (λ (x : ℕ). w * x) (sym (pow-add 2 s t)))
-
-module _ (ws : List ℕ) (n rest : ℕ) (h : n < 64 * length ws) (e : rest ≡ restOf ws n) where
-  word : ℕ
-  word = getD ws (n / 64) 0
-
-  behind : (rest * 2 ^ 1) % 2 ^ 64 ≡ (getD ws (n / 64) 0 * 2 ^ (n % 64 + 1)) % 2 ^ 64
-  behind = ap (λ (x : ℕ). (x * 2 ^ 1) % 2 ^ 64) e ∙ shift-twice (getD ws (n / 64) 0) (n % 64) 1
-
-  -- nothing is left in the word
-  pub word-done : (rest * 2 ^ 1) % 2 ^ 64 ≡ 0 → Skipped 1 (bits ws) (n + 1) (n / 64 * 64 + 64)
-  word-done z k a b = go (decLt (n % 64) 63) k a b
-    where
-      go : Dec (n % 64 < 63) → Skipped 1 (bits ws) (n + 1) (n / 64 * 64 + 64)
-      go (yes l) =
-          passed 1 ws (n + 1) (n + 1) (n / 64) (n % 64 + 1) 64 (omega arith) (omega arith) (omega arith) (omega arith) (λ k a b. absurd (omega arith))
-          (none-left (getD ws (n / 64) 0) (n % 64 + 1) (omega arith) (sym behind ∙ z)) (omega arith)
-      go (no l) = λ k a b. absurd (omega arith)
-
-  pub word-goes : (at r : ℕ) → (rest * 2 ^ 1) % 2 ^ 64 ≡ 0 → Spotted ws (n / 64 * 64 + 64) at r → Spotted ws (n + 1) at r
-  word-goes at r z s = record {
-    first = record {
-      after = let q = s .first .after in omega arith;
-      within = s .first .within;
-      before = λ k a b. early k a b (decLt k (n / 64 * 64 + 64));
-      here = s .first .here;
-    };
-    left = s .left;
-  }
-    where
-      early : (k : ℕ) → n + 1 ≤ k → k < at → Dec (k < n / 64 * 64 + 64) → ¬ (getD (bits ws) k 0 ≡ 1)
-      early k a b (yes l) = word-done z k a l
-      early k a b (no l) = s .first .before k (omega arith) b
-
-  -- there is one more
-  module _ (nz : ¬ ((rest * 2 ^ 1) % 2 ^ 64 ≡ 0)) where
-    inner : n % 64 + 1 < 64
-    inner = go (decLt (n % 64 + 1) 64)
-      where
-        go : Dec (n % 64 + 1 < 64) → n % 64 + 1 < 64
-        go (yes l) = l
-        go (no l) =
-            let q : n % 64 + 1 ≡ 64 = omega arith in
-            absurd (nz (behind ∙ ap (λ (x : ℕ). (getD ws (n / 64) 0 * 2 ^ x) % 2 ^ 64) q ∙ mul-mod-left (getD ws (n / 64) 0) (2 ^ 64)))
-
-    more : ¬ ((getD ws (n / 64) 0 * 2 ^ (n % 64 + 1)) % 2 ^ 64 ≡ 0)
-    more z = nz (behind ∙ z)
-
-    pub in-it : n % 64 + 1 + leadingZeros 64 ((rest * 2 ^ 1) % 2 ^ 64) < 64
-    in-it = subst (λ (x : ℕ). n % 64 + 1 + leadingZeros 64 x < 64) (sym behind) (left-low (getD ws (n / 64) 0) (n % 64 + 1) inner more)
-
-    pub word-more : (z : ℕ) → z ≡ leadingZeros 64 ((rest * 2 ^ 1) % 2 ^ 64) → Spotted ws (n + 1) (n + 1 + z) (((rest * 2 ^ 1) % 2 ^ 64 * 2 ^ z) % 2 ^ 64)
-    word-more z ez = record {
-      first = subst (λ (x : ℕ). First 1 (bits ws) (n + 1) x) there
-          (found 1 ws (n + 1) (n + 1) (n / 64) (n % 64 + 1) (n % 64 + 1 + leadingZeros 64 ((getD ws (n / 64) 0 * 2 ^ (n % 64 + 1)) % 2 ^ 64)) (omega arith) inner (omega arith) (omega arith) (λ k a b. absurd (omega arith))
-          (one-left (getD ws (n / 64) 0) (n % 64 + 1) inner more) (left-low (getD ws (n / 64) 0) (n % 64 + 1) inner more));
-      left = λ b. ap (λ (x : ℕ). (x * 2 ^ z) % 2 ^ 64) behind ∙ shift-twice (getD ws (n / 64) 0) (n % 64 + 1) z ∙ ap₂ (λ (q s : ℕ). (getD ws q 0 * 2 ^ s) % 2 ^ 64) same-word same-bit;
-    }
-      where
-        low : n % 64 + 1 + z < 64
-        low = omega (arith, ez, in-it)
-
-        there : n / 64 * 64 + (n % 64 + 1 + leadingZeros 64 ((getD ws (n / 64) 0 * 2 ^ (n % 64 + 1)) % 2 ^ 64)) ≡ n + 1 + z
-        there = let q = ez ∙ ap (leadingZeros 64) behind in omega arith
-
-        same-word : n / 64 ≡ (n + 1 + z) / 64
-        same-word = let q = low in omega arith
-
-        same-bit : n % 64 + 1 + z ≡ (n + 1 + z) % 64
-        same-bit = let q = low in omega arith

@@ -39,29 +39,3 @@ pub record First (v : ℕ) (bs : List ℕ) (from r : ℕ) : Type 0 where
   pub within : r ≤ length bs
   pub before : Skipped v bs from r
   pub here : r < length bs → getD bs r 0 ≡ v
-
--- where r is zero, so are eight words
-abbrev pub Eight : List ℕ → ℕ → ℕ → Type 0
-Eight ws i r = r ≡ 0 → (j : ℕ) → j < 8 → getD ws (i + j) 0 ≡ 0
-
--- the words from `from` to before r are zero
-pub record AllZero (ws : List ℕ) (from r : ℕ) : Type 0 where
-  pub after : from ≤ r
-  pub within : r ≤ length ws
-  pub zeros : (k : ℕ) → from ≤ k → k < r → getD ws k 0 ≡ 0
-
--- r is the first word at or behind `from` that is not zero, or the number of words
-pub record NextWord (ws : List ℕ) (from r : ℕ) : Type 0 where
-  pub after : from ≤ r
-  pub within : r ≤ length ws
-  pub zeros : (k : ℕ) → from ≤ k → k < r → getD ws k 0 ≡ 0
-  pub here : r < length ws → ¬ (getD ws r 0 ≡ 0)
-
--- the word of bit n, shifted so that the bit comes first
-abbrev pub restOf : List ℕ → ℕ → ℕ
-restOf ws n = (getD ws (n / 64) 0 * 2 ^ (n % 64)) % 2 ^ 64
-
--- the first set bit from `from` on, and the rest of its word
-pub record Spotted (ws : List ℕ) (from at rest : ℕ) : Type 0 where
-  pub first : First 1 (bits ws) from at
-  pub left : at < 64 * length ws → rest ≡ restOf ws at

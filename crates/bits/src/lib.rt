@@ -9,7 +9,7 @@ ghost use Prim.Native.Nat.{_+_, _*_, _≤_, _<_};
 ghost use lib.Dec.{eqb};
 ghost use lib.ListN.{length, getD, set};
 ghost use mathlib.Core.Bool.{true, false};
-ghost use Rattle.bits.specs.Packed.{parts, fields, bits, sum, Skipped, First, Eight, AllZero, NextWord, Zeros, restOf, Spotted};
+ghost use Rattle.bits.specs.Packed.{parts, fields, bits, sum, Skipped, First, Zeros};
 
 pub fn field(words: &[u64], i: usize) -> u16
     requires { ⌜ i < 4 * length (now words) ⌝ }
@@ -166,109 +166,4 @@ pub fn lowest_free_from(map: &[u64], from: usize) -> usize
         i += 1;
     }
     i * 64
-}
-
-// Eight words as one, which is zero exactly if they all are.
-fn eight(map: &[u64], i: usize) -> u64
-    requires { ⌜ i + 8 ≤ length (now map) ⌝ }
-    ensures { λ r. ⌜ Eight (now (map .entry)) i r ⌝ }
-{
-    map[i]
-        | map[i + 1]
-        | map[i + 2]
-        | map[i + 3]
-        | map[i + 4]
-        | map[i + 5]
-        | map[i + 6]
-        | map[i + 7]
-}
-
-// A place up to which all words from `from` on are zero: maps are mostly empty, so they are passed by eights.
-fn past_zeros(map: &[u64], from: usize) -> usize
-    requires { ⌜ from ≤ length (now map) ⌝ }
-    ensures { λ r. ⌜ AllZero (now (map .entry)) from r ⌝ }
-{
-    let mut i = from;
-    while 8 <= map.len() - i {
-        if eight(map, i) != 0 {
-            return i;
-        }
-        i += 8;
-    }
-    i
-}
-
-// The first word at or behind `from` that is not zero, or the number of words.
-fn next_word(map: &[u64], from: usize) -> usize
-    requires { ⌜ from ≤ length (now map) ⌝ }
-    ensures { λ r. ⌜ NextWord (now (map .entry)) from r ⌝ }
-{
-    let mut i = past_zeros(map, from);
-    while i < map.len() {
-        if map[i] != 0 {
-            return i;
-        }
-        i += 1;
-    }
-    i
-}
-
-// The first set bit at or after `from`, or the number of bits. Starting each call behind the last answer,
-// a walk over all set bits costs the words and the set bits.
-pub fn next_marked(map: &[u64], from: usize) -> usize
-    requires { ⌜ length (now map) ≤ 65536 ⌝ }
-    requires { ⌜ from ≤ 64 * length (now map) ⌝ }
-    ensures { λ r. ⌜ First 1 (bits (now (map .entry))) from r ⌝ }
-{
-    if map.len() * 64 <= from {
-        return from;
-    }
-    let q = from / 64;
-    let r = first_one(map[q], from % 64);
-    if r < 64 {
-        return q * 64 + r;
-    }
-    let i = next_word(map, q + 1);
-    if i < map.len() {
-        return i * 64 + u64::leading_zeros(map[i]) as usize;
-    }
-    i * 64
-}
-
-// A set bit, and the rest of its word, shifted so that the bit comes first. Where there is no set bit, `at` is the number of bits.
-pub struct Spot {
-    pub at: usize,
-    pub rest: u64,
-}
-
-// The first set bit at or after `from`.
-pub fn first_spot(map: &[u64], from: usize) -> Spot
-    requires { ⌜ length (now map) ≤ 65536 ⌝ }
-    requires { ⌜ from ≤ 64 * length (now map) ⌝ }
-    ensures { λ r. ⌜ Spotted (now (map .entry)) from (r .at) (r .rest) ⌝ }
-{
-    let at = next_marked(map, from);
-    if map.len() * 64 <= at {
-        return Spot { at, rest: 0 };
-    }
-    let rest = map[at / 64] << (at % 64);
-    Spot { at, rest }
-}
-
-// The next set bit behind a spot: no step of a walk waits for memory as long as its word has one more.
-pub fn next_spot(map: &[u64], at: usize, rest: u64) -> Spot
-    requires { ⌜ length (now map) ≤ 65536 ⌝ }
-    requires { ⌜ at < 64 * length (now map) ⌝ }
-    requires { ⌜ rest ≡ restOf (now map) at ⌝ }
-    ensures { λ r. ⌜ Spotted (now (map .entry)) (at + 1) (r .at) (r .rest) ⌝ }
-{
-    let left = rest << 1;
-    if left == 0 {
-        return first_spot(map, at / 64 * 64 + 64);
-    }
-    let z = u64::leading_zeros(left) as usize;
-    Spot {
-        at: at + 1 + z,
-        rest: left << z,
-    }
 }

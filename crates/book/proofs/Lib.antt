@@ -7,4 +7,9 @@ pub mod Placing
 pub mod Signs
 pub mod Adding
 pub mod Checking
-pub mod Passing
+pub mod Coming
+pub mod Downing
+pub mod Ruling
+pub mod Along
+pub mod Ending
+pub mod Plainly

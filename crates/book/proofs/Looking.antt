@@ -2,7 +2,7 @@
 use mathlib.Core.Path.{_≡_, refl, sym, ap, ap₂, _∙_, subst}
 use mathlib.Core.List.{List}
 use mathlib.Core.Bool.{Bool, true, false}
-use Prim.Native.Nat.{ℕ, suc, _+_, _-_, _≤_, _<_}
+use Prim.Native.Nat.{ℕ, suc, _+_, _≤_, _<_}
 use native.Mathlib.Omega.{arith}
 use borrow.Author.Tests.{lt-ltb, le-ltb, eq-eqb, ne-eqb}
 use lib.Dec.{eqb, ltb}
@@ -10,7 +10,7 @@ use lib.ListN.{length, getD, take, drop, length-take, length-drop}
 use lib.Seq.{ext-getD, getD-take, getD-drop}
 use Rattle.bits.specs.Packed.{bits, sum}
 use Rattle.term.specs.Beginnings.{both}
-use Rattle.tree.specs.Words.{cellOf, parentOf}
+use Rattle.tree.specs.Words.{cellOf}
 use Rattle.tree.specs.Tally.{marked}
 use Rattle.tree.specs.Limits.{rule-bit, nodes-held, rules-held, used-low}
 use Rattle.tree.specs.Shape.{Used}
@@ -37,11 +37,6 @@ pub rule-number : (ws : List ℕ) (r : ℕ) → r < 512 → cellOf (getD ws (416
 rule-number ws r h =
     let e : 4169 + r ≡ 72 + suc (4096 + r) = omega arith in
     ap cellOf (ap (λ (k : ℕ). getD ws k 0) e ∙ sym (getD-take 4681 ws (72 + suc (4096 + r)) 0 (omega arith)))
-
-pub rule-parent : (ws : List ℕ) (r : ℕ) → r < 512 → parentOf (getD ws (4169 + r) 0) ≡ view ws .tree .parent (4096 + r)
-rule-parent ws r h =
-    let e : 4169 + r ≡ 72 + suc (4096 + r) = omega arith in
-    ap parentOf (ap (λ (k : ℕ). getD ws k 0) e ∙ sym (getD-take 4681 ws (72 + suc (4096 + r)) 0 (omega arith)))
 
 -- the tree's part is as long as it should be, and so its nodes are low
 pub tree-long : (ws : List ℕ) → length ws ≡ 12618 → length (take 4681 ws) ≡ 4681

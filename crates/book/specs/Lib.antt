@@ -6,3 +6,6 @@ pub mod Forms
 pub mod Holding
 pub mod Change
 pub mod Facts
+pub mod Walk
+pub mod State
+pub mod General

@@ -1,16 +1,14 @@
 -- What the book's functions promise.
 use mathlib.Core.Path.{_≡_}
-use mathlib.Core.List.{List, [], _∷_, _++_}
+use mathlib.Core.List.{List, _++_}
 use mathlib.Core.Bool.{Bool, true, false}
-use mathlib.Core.Logic.{_⊎_, _↔_}
-use Prim.Native.Nat.{ℕ, suc, _+_, _-_, _<_}
+use Prim.Native.Nat.{ℕ, _-_, _<_}
 use lib.ListN.{length, replicate}
 use Rattle.term.specs.Reading.{readTerm}
 use Rattle.term.specs.declared.reading.Reading.the-variants.{Whole}
-use Rattle.tree.specs.Shape.{Shape, Up, On, loose}
-use Rattle.tree.specs.Promises.{Marked}
+use Rattle.tree.specs.Shape.{Shape}
 use Rattle.book.specs.Rules.{Held, nothing, rule, isHeld, withoutRule, ruleCount, nodesOf, Added, Taken, judged, after}
-use Rattle.book.specs.Memory.{View, view, leaf, Recorded, Passing, rulesIn}
+use Rattle.book.specs.Memory.{View, view, Passing, rulesIn}
 pub use Rattle.book.specs.declared.Removed.{Removed}
 pub use Rattle.book.specs.declared.Removed.the-variants.{Gone, NotHeld}
 
@@ -100,13 +98,3 @@ pub record Stores (v v′ : View) (k r : ℕ) (t : List ℕ) : Type 0 where
 pub record IsWhole (cells : List ℕ) (size : ℕ) (r : Bool) : Type 0 where
   pub yes : r ≡ true → readTerm cells ≡ Whole size
   pub no : r ≡ false → ¬ (readTerm cells ≡ Whole size)
-
--- The way up from the rule at a place, whatever nodes are used: it reads its form and its number.
-abbrev pub WayAt : List ℕ → ℕ → Type 0
-WayAt ws r = Up (loose (view ws .tree)) (suc (4096 + r)) (mathlib.Core.List.reverse (leaf (view ws) r .form ++ (leaf (view ws) r .number ∷ [])))
-
--- One record is right, and going up from its rule reads its form and its number; then the nodes on the way are marked.
-pub record RecordChecked (ws map map′ : List ℕ) (r : ℕ) (b : Bool) : Type 0 where
-  pub yes : b ≡ true → Recorded (view ws) r × WayAt ws r
-  pub no : b ≡ false → ¬ (Recorded (view ws) r × WayAt ws r)
-  pub marks : b ≡ true → (n : ℕ) → Marked map′ n ↔ (Marked map n ⊎ On (view ws .tree) n (suc (4096 + r)))

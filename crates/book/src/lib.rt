@@ -11,6 +11,7 @@
 pub mod change;
 pub mod check;
 pub mod record;
+pub mod walk;
 
 ghost use mathlib.Core.Path.{_≡_};
 ghost use Prim.Native.Nat.{_<_};

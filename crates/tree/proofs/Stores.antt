@@ -1,7 +1,7 @@
 -- One word stored writes a node or puts a link; one bit stored marks a node or clears it
 use mathlib.Core.Path.{_≡_, refl, sym, ap, _∙_, subst}
 use mathlib.Core.List.{List, _++_}
-use Prim.Native.Nat.{ℕ, zero, suc, _+_, _-_, _*_, _≤_, _<_}
+use Prim.Native.Nat.{ℕ, zero, suc, _+_, _*_, _≤_, _<_}
 use native.Mathlib.Omega.{arith}
 use native.Mathlib.Decide.{ℕ-discrete}
 use mir.Syntax.{w64}
@@ -28,9 +28,6 @@ at-bytes h = omega arith
 
 pub at-in : {k l : ℕ} → k ≡ 4681 → l ≤ 4608 → 72 + l < k
 at-in size h = omega arith
-
-pub in-map : {k l : ℕ} → k ≡ 72 → (0 < l) × (l ≤ 4608) → l - 1 < 64 * k
-in-map size h = omega arith
 
 pub next-fits : {n : ℕ} → n < 4608 → Fits w64 (n + 1)
 next-fits h = omega arith

@@ -1,12 +1,11 @@
 -- Small facts that several modules use
-use mathlib.Core.Path.{_≡_, refl, sym, ap, _∙_}
+use mathlib.Core.Path.{_≡_, refl, sym, _∙_}
 use mathlib.Core.List.{List, _∷_}
 use mathlib.Core.Bool.{Bool, true, false, not}
-use Prim.Native.Nat.{ℕ, suc, _-_}
-use native.Mathlib.Omega.{arith}
+use Prim.Native.Nat.{ℕ, suc}
 use borrow.Author.Tests.{eq-eqb, not-true, not-false}
 use lib.Dec.{eqb}
-use Rattle.tree.specs.Shape.{Shape, Used, uses, Live, Up, top, down}
+use Rattle.tree.specs.Shape.{Shape, Used, Live, Up, top, down}
 
 -- what a test answers, asked by `if !test`
 pub told-no : {b u : Bool} → b ≡ u → not b ≡ true → u ≡ false
@@ -17,9 +16,6 @@ told-yes {b} e h = sym e ∙ not-false b h
 
 pub eqb-exact : (a : ℕ) → eqb a a ≡ true
 eqb-exact a = eq-eqb a a refl
-
-pub uses-node : (m : Shape) (l : ℕ) → ¬ (l ≡ 0) → uses m l ≡ m .used (l - 1)
-uses-node m l h = let e : l ≡ suc (l - 1) = omega arith in ap (uses m) e
 
 -- what a way up says of its first node
 

@@ -20,8 +20,9 @@ pub mod Link
 pub mod Unlink
 pub mod Partly
 pub mod Plant
--- .. of the check, and of the layout.
-pub mod Check
+-- .. of the walk down from the root, and of the layout.
+pub mod Down
+pub mod Stops
 pub mod Limits
 -- Between the functions of this crate.
 pub mod Effects

@@ -1,25 +1,23 @@
 -- What the layout gives: numbers and cells that are small, the counts of the maps' bits, the empty memory
 use mathlib.Core.Path.{_≡_, refl, sym, ap, _∙_}
-use mathlib.Core.List.{List, []}
-use mathlib.Core.Bool.{Bool, true, false}
+use mathlib.Core.List.{List, [], List·Memᴰ·not-nil}
+use mathlib.Core.Bool.{false}
 use Prim.Native.Nat.{ℕ, zero, suc, _+_, _*_, _-_, _/_, _%_, _^_, _≤_, _<_}
 use native.Mathlib.Nat.{zero-div}
 use native.Mathlib.Omega.{arith}
 use native.Mathlib.Decide.{decLt}
-use lib.Dec.{eqb, ltb, leb}
-use borrow.Author.Tests.{ltb-true}
+use lib.Dec.{eqb}
 use lib.ListN.{length, getD, take, drop, length-take, length-drop, List·getD-eq-default}
 use lib.Seq.{getD-take, getD-drop}
 use Rattle.bits.specs.Packed.{bits, sum}
 use Rattle.bits.specs.Laws.{length-bits, get-bit}
 use Rattle.term.specs.Counting.{true≢false}
-use Rattle.tree.specs.Shape.{Shape, Used, uses, loose, Live, Valid, End, Passes, forms, Short}
+use Rattle.tree.specs.Shape.{Shape, Place, child, after, Used, Live, Valid, to, Fits, End, Passes, forms, Short}
 use Rattle.tree.specs.Rows.{row-short}
 use Rattle.tree.specs.Trie.{Bounded}
 use Rattle.tree.specs.Tally.{tally, marked}
 use Rattle.tree.specs.Tallies.{tally-same, map-tally}
 use Rattle.tree.specs.Words.{word, shape, place}
-use Rattle.tree.specs.Check.{empty-passes}
 
 -- the nodes' map and the rules'
 abbrev pub nodeMap : List ℕ → List ℕ
@@ -77,22 +75,15 @@ module _ (ws : List ℕ) (size : length ws ≡ 4681) where
   pub bounded : ((l : ℕ) → word ws l < 2 ^ 64) → (ends : List End) → Passes (shape ws) ends → Short (forms ends) → Bounded (shape ws)
   bounded fits ends c s = record { small = λ n u. omega (arith, fits (suc n)); shallow = row-short c s }
 
--- a link to one of the 4,608 nodes
-abbrev pub reaches : ℕ → Bool
-reaches zero = false
-reaches (suc n) = ltb n 4608
-
-pub reaches-node : (l : ℕ) → ¬ (l ≡ 0) → leb l 4608 ≡ reaches l
-reaches-node zero h = absurd (h refl)
-reaches-node (suc n) h = refl
-
-pub loose-uses : (m : Shape) (l : ℕ) → reaches l ≡ uses (loose m) l
-loose-uses m zero = refl
-loose-uses m (suc n) = refl
-
-pub loose-low : (m : Shape) (l : ℕ) → uses (loose m) l ≡ true → (0 < l) × (l ≤ 4608)
-loose-low m zero e = absurd (true≢false e refl)
-loose-low m (suc n) e = let h = ltb-true n 4608 e in (omega arith, omega arith)
+-- an empty tree passes with no ends
+pub empty-passes : (m : Shape) → ((n : ℕ) → m .used n ≡ false) → m .first 0 ≡ 0 → Passes m []
+empty-passes m free none = record
+    { goes = go; comes = λ n u. absurd (true≢false u (free n)); ways = λ x i. absurd (List·Memᴰ·not-nil i); covered = λ n u. absurd (true≢false u (free n)) }
+  where
+    go : (s : Place) → Valid m s → {n : ℕ} → to m s ≡ suc n → Fits m s n
+    go (child zero) v e = absurd (omega (arith, sym none ∙ e))
+    go (child (suc k)) v e = absurd (true≢false v (free k))
+    go (after k) v e = absurd (true≢false v (free k))
 
 -- no bit of the maps is set, and the root has no child
 pub empty-words : (ws : List ℕ) → ((k : ℕ) → k ≤ 72 → getD ws k 0 ≡ 0) → ((n : ℕ) → shape ws .used n ≡ false) × Passes (shape ws) []

@@ -1,16 +1,15 @@
 -- What the inner functions ask for, and promise to each other
 use mathlib.Core.Path.{_≡_}
-use mathlib.Core.Logic.{_⊎_, _↔_}
 use mathlib.Core.List.{List}
-use mathlib.Core.Bool.{Bool, true, false}
+use mathlib.Core.Bool.{false}
 use Prim.Native.Nat.{ℕ, suc, _+_, _≤_, _<_}
 use lib.ListN.{length, getD}
-use Rattle.tree.specs.Shape.{Shape, Place, child, after, Used, Live, Valid, Goes, Tree}
+use Rattle.tree.specs.Shape.{Shape, Place, Used, Live, Valid, Tree}
 use Rattle.tree.specs.Shape as shapes
 use Rattle.tree.specs.Change.{Unlinks}
 use Rattle.tree.specs.Tally.{tally}
 use Rattle.tree.specs.Words.{shape, place}
-use Rattle.tree.specs.Promises.{Marked, Absent, Found}
+use Rattle.tree.specs.Promises.{Absent, Found}
 
 -- a walk among the children of p
 pub record Ready (ws : List ℕ) (p : ℕ) : Type 0 where
@@ -53,9 +52,3 @@ pub record Leaf (ws : List ℕ) (n : ℕ) : Type 0 where
 pub record Unlinked (m m′ : Shape) (n : ℕ) : Type 0 where
   pub at : Place
   pub unlinks : Unlinks m m′ at n
-
--- both places of the node n go well; then the nodes that they lead to are marked
-pub record Noded (m : Shape) (map map′ : List ℕ) (n : ℕ) (r : Bool) : Type 0 where
-  pub yes : r ≡ true → Goes m (child (suc n)) × Goes m (after n)
-  pub no : r ≡ false → ¬ (Goes m (child (suc n)) × Goes m (after n))
-  pub marks : r ≡ true → (y : ℕ) → Marked map′ y ↔ (Marked map y ⊎ ((m .first (suc n) ≡ suc y) ⊎ (m .next n ≡ suc y)))

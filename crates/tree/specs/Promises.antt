@@ -1,12 +1,11 @@
 -- What the functions promise
 use mathlib.Core.Path.{_≡_}
-use mathlib.Core.Logic.{_⊎_, _↔_}
+use mathlib.Core.Logic.{_⊎_}
 use mathlib.Core.List.{List, reverse}
-use mathlib.Core.Bool.{Bool, true, false}
+use mathlib.Core.Bool.{true, false}
 use Prim.Native.Nat.{ℕ, suc, _+_, _-_, _≤_, _<_}
 use lib.ListN.{length, getD, take, drop}
-use Rattle.term.specs.Cells.{blankOf, numberOf}
-use Rattle.tree.specs.Shape.{Shape, Place, Used, Live, Valid, to, owner, floor, Suits, Goes, Source, Up, On, Tree, loose}
+use Rattle.tree.specs.Shape.{Shape, Place, Used, Live, Valid, to, owner, floor, Up, Tree}
 use Rattle.tree.specs.Change.{Grown, Links, Sorted}
 use Rattle.tree.specs.Tally.{tally, marked}
 use Rattle.tree.specs.Words.{cellOf, parentOf, nextOf, shape, place}
@@ -61,28 +60,6 @@ pub record Hung (m m′ : Shape) (p r number : ℕ) : Type 0 where
   pub below : owner m at ≡ p
   pub sorted : Sorted m at number
   pub links : Links m m′ at number (4096 + r)
-
--- the cells as a form has them
-abbrev pub formed : List ℕ → List ℕ
-formed cells = mathlib.Core.List.map (λ c. numberOf (blankOf c)) cells
-
--- Going up from the link l, whatever nodes are used, reads the form backwards and ends at the root; then the nodes on the way are marked
-pub record Climbed (m : Shape) (map map′ : List ℕ) (l : ℕ) (form : List ℕ) (r : Bool) : Type 0 where
-  pub yes : r ≡ true → Up (loose m) l (reverse form)
-  pub no : r ≡ false → ¬ (Up (loose m) l (reverse form))
-  pub marks : r ≡ true → (n : ℕ) → Marked map′ n ↔ (Marked map n ⊎ On m n l)
-
--- The link x is none, or that of a child of p with a cell of at least `low`, which is then marked
-pub record Visited (m : Shape) (map map′ : List ℕ) (x p low : ℕ) (r : Bool) : Type 0 where
-  pub yes : r ≡ true → (n : ℕ) → x ≡ suc n → Suits m p low n
-  pub no : r ≡ false → ¬ ((n : ℕ) → x ≡ suc n → Suits m p low n)
-  pub marks : r ≡ true → (y : ℕ) → Marked map′ y ↔ (Marked map y ⊎ (x ≡ suc y))
-
--- Every link goes well, whatever nodes are used; then the nodes that links lead to are marked
-pub record Targeted (m : Shape) (map : List ℕ) (r : Bool) : Type 0 where
-  pub yes : r ≡ true → (s : Place) → Valid m s → Goes (loose m) s
-  pub no : r ≡ false → ¬ ((s : Place) → Valid m s → Goes (loose m) s)
-  pub marks : r ≡ true → (y : ℕ) → Marked map y ↔ Source m y
 
 -- The link f leads to a used sibling further on than the node with the word w, with a cell of `most` at the most
 pub record Further (m : Shape) (w most f : ℕ) : Type 0 where

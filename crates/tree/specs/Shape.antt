@@ -3,9 +3,8 @@
 use mathlib.Core.Path.{_≡_}
 use mathlib.Core.Logic.{_⊎_}
 use mathlib.Core.List.{List, [], _∷_, _++_, map, reverse, List·Memᴰ}
-use mathlib.Core.Bool.{Bool, true, false}
+use mathlib.Core.Bool.{Bool, true}
 use Prim.Native.Nat.{ℕ, zero, suc, _≤_}
-use lib.Dec.{ltb}
 use lib.ListN.{length}
 
 pub record Shape : Type 0 where
@@ -57,10 +56,6 @@ module _ (m : Shape) where
   abbrev pub Fits : Place → ℕ → Type 0
   Fits s n = Suits (owner s) (floor s) n
 
-  -- a place leads to no node, or to one that fits
-  abbrev pub Goes : Place → Type 0
-  Goes s = (n : ℕ) → to s ≡ suc n → Fits s n
-
   pub record Source (n : ℕ) : Type 0 where
     pub at : Place
     pub valid : Valid at
@@ -81,15 +76,6 @@ module _ (m : Shape) where
     pub goes : (s : Place) → Valid s → {n : ℕ} → to s ≡ suc n → Fits s n
     pub comes : (n : ℕ) → Used n → Source n
     pub rooted : (n : ℕ) → Used n → (r : List ℕ) × Up (suc n) r
-
--- the link is that of a used node
-abbrev pub uses : Shape → ℕ → Bool
-uses m zero = false
-uses m (suc n) = m .used n
-
--- the same links, with each of the 4,608 nodes in use: the check follows links first and compares the maps last
-abbrev pub loose : Shape → Shape
-loose m = record { used = λ n. ltb n 4608; cell = m .cell; parent = m .parent; next = m .next; first = m .first }
 
 -- An end: the last node of a form, and the form as cell numbers
 pub record End : Type 0 where

@@ -120,12 +120,6 @@ as-many-all u v (suc k) h e n l =
     go (yes q) ih s x = ap v q ∙ bit-same (u k) (v k) s (ap u (sym q) ∙ x)
     go (no q) ih s x = ih (omega arith) x
 
-pub same-bool : (a b : Bool) → (a ≡ true → b ≡ true) → (b ≡ true → a ≡ true) → a ≡ b
-same-bool true true f g = refl
-same-bool true false f g = sym (f refl)
-same-bool false true f g = g refl
-same-bool false false f g = refl
-
 -- ---- the bits of a map
 
 module _ (map map′ : List ℕ) (n v : ℕ) (h : n < 64 * length map) (e : bits map′ ≡ set (bits map) n v) where

@@ -110,7 +110,7 @@ module _ (m : Shape) (t : Tree m) (P : ℕ → Type 0)
       let pk = under y k v refl in
       children (suc k) v (λ a h. below k a v pk h) (x .0) n (ap (λ (z : ℕ). ith m z (x .0)) (sym e) ∙ x .1)
 
-  reach : (n : ℕ) → Used m n → P n
+  pub reach : (n : ℕ) → Used m n → P n
   reach n u = go (t .rooted n u .1)
     where
       go : {r : List ℕ} → Up m (suc n) r → P n

@@ -14,16 +14,15 @@ pub mod signs;
 ghost use mathlib.Core.Path.{_≡_};
 ghost use mathlib.Core.List.{reverse};
 ghost use mathlib.Core.Bool.{true, false};
-ghost use Prim.Native.Nat.{ℕ, suc, _+_, _<_, _≤_};
+ghost use Prim.Native.Nat.{suc, _+_, _<_, _≤_};
 ghost use lib.ListN.{length};
-ghost use Rattle.tree.specs.Shape.{Used, loose, to};
+ghost use Rattle.tree.specs.Shape.{Used, to};
 ghost use Rattle.tree.specs.Tally.{tally};
 ghost use Rattle.tree.specs.Change.{Links, Grown, Trimmed};
 ghost use Rattle.tree.specs.Effects.{Puts};
 ghost use Rattle.tree.specs.Words.{cellOf, parentOf, firstOf, nextOf, Node, shape, place};
-ghost use Rattle.tree.specs.Promises.{Sound, Marked, Found, Descended, Planted, Hangable, Hung, Climbed, formed, Visited, Targeted};
-ghost use Rattle.tree.specs.Limits.{reaches};
-ghost use Rattle.tree.specs.Needs.{Ready, Room, Next, Growing, Leaf, Unlinked, Noded};
+ghost use Rattle.tree.specs.Promises.{Sound, Found, Descended, Planted, Hangable, Hung};
+ghost use Rattle.tree.specs.Needs.{Ready, Room, Next, Growing, Leaf, Unlinked};
 
 // ---- the word of a link
 
@@ -279,106 +278,4 @@ pub fn trim(m: &mut [u64], last: usize)
         unlink(m, l - 1);
         l = parent_of(w) as usize;
     }
-}
-
-// ---- the check
-
-// Is the link that of a node? Whether the node is used is asked once for all, when the marks are compared with the maps.
-fn is_node(l: usize) -> bool
-    ensures { λ r. ⌜ r ≡ reaches l ⌝ }
-{
-    if l == 0 {
-        return false;
-    }
-    l <= 4608
-}
-
-// Does going up from the link `from` read the form of the cells backwards and end at the root? Marks the nodes on the way.
-pub fn climb(m: &[u64], map: &mut [u64], from: usize, cells: &[u16]) -> bool
-    requires { ⌜ length (now m) ≡ 4681 ⌝ }
-    requires { ⌜ length (now map) ≡ 72 ⌝ }
-    ensures { λ r. ⌜ Climbed (shape (now (m .entry))) (now (map .entry)) (now (map .exit)) from (formed (now (cells .entry))) r ⌝ }
-{
-    let mut l = from;
-    let mut i: usize = cells.len();
-    while i != 0 {
-        if !is_node(l) {
-            return false;
-        }
-        let w = m[72 + l];
-        if cell_of(w) != wide(term::blank(cells[i - 1])) {
-            return false;
-        }
-        bits::mark(map, l - 1);
-        i = i - 1;
-        l = parent_of(w) as usize;
-    }
-    l == 0
-}
-
-// Is x no link, or one to a child of p with a cell of at least `low`? Marks the child.
-fn visit(m: &[u64], map: &mut [u64], x: usize, p: usize, low: u64) -> bool
-    requires { ⌜ length (now m) ≡ 4681 ⌝ }
-    requires { ⌜ length (now map) ≡ 72 ⌝ }
-    ensures { λ r. ⌜ Visited (loose (shape (now (m .entry)))) (now (map .entry)) (now (map .exit)) x p low r ⌝ }
-{
-    if x == 0 {
-        return true;
-    }
-    if !is_node(x) {
-        return false;
-    }
-    let w = m[72 + x];
-    if parent_of(w) as usize != p {
-        return false;
-    }
-    if cell_of(w) < low {
-        return false;
-    }
-    bits::mark(map, x - 1);
-    true
-}
-
-// The two places of the node n.
-fn visit_node(m: &[u64], map: &mut [u64], n: usize) -> bool
-    requires { ⌜ length (now m) ≡ 4681 ⌝ }
-    requires { ⌜ length (now map) ≡ 72 ⌝ }
-    requires { ⌜ n < 4608 ⌝ }
-    ensures { λ r. ⌜ Noded (loose (shape (now (m .entry)))) (now (map .entry)) (now (map .exit)) n r ⌝ }
-{
-    let w = m[73 + n];
-    if !visit(m, map, first_of(w) as usize, n + 1, 0) {
-        return false;
-    }
-    visit(
-        m,
-        map,
-        next_of(w) as usize,
-        parent_of(w) as usize,
-        cell_of(w) + 1,
-    )
-}
-
-// Do all links of the root and of the used nodes fit? Marks the nodes that they lead to. It walks over the set bits of the map.
-pub fn targets(m: &[u64], map: &mut [u64]) -> bool
-    requires { ⌜ length (now m) ≡ 4681 ⌝ }
-    requires { ⌜ length (now map) ≡ 72 ⌝ }
-    requires { ⌜ ((y : ℕ) → Marked (now map) y → ⊥) ⌝ }
-    ensures { λ r. ⌜ Targeted (shape (now (m .entry))) (now (map .exit)) r ⌝ }
-{
-    if !visit(m, map, first_of(m[72]) as usize, 0, 0) {
-        return false;
-    }
-    let first = bits::first_spot(&m[0..72], 0);
-    let mut n = first.at;
-    let mut rest = first.rest;
-    while n < 4608 {
-        if !visit_node(m, map, n) {
-            return false;
-        }
-        let next = bits::next_spot(&m[0..72], n, rest);
-        n = next.at;
-        rest = next.rest;
-    }
-    true
 }
