@@ -14,3 +14,4 @@ pub mod Ruling
 pub mod Along
 pub mod Ending
 pub mod Plainly
+pub mod Moving
