@@ -86,12 +86,13 @@ pub record Come (left left′ : List ℕ) (w n p low : ℕ) (r : Bool) : Type 0 
   pub gone : r ≡ true → marked left′ n ≡ false
   pub others : r ≡ true → (y : ℕ) → ¬ (y ≡ n) → marked left′ y ≡ marked left y
 
--- The word w is put on the stack where it has a next sibling
+-- The word w is put on the stack, and counts where it has a next sibling
 pub record Pushed (stack stack′ : List ℕ) (top top′ w depth : ℕ) : Type 0 where
   pub word : ℕ
   pub is : Node word (cellOf w) (parentOf w) depth (nextOf w)
-  pub last : nextOf w ≡ 0 → (top′ ≡ top) × (stack′ ≡ stack)
-  pub more : ¬ (nextOf w ≡ 0) → (top′ ≡ top + 1) × (stack′ ≡ set stack top word)
+  pub stored : stack′ ≡ set stack top word
+  pub last : nextOf w ≡ 0 → top′ ≡ top
+  pub more : ¬ (nextOf w ≡ 0) → top′ ≡ top + 1
 
 -- The lengths of the memory and of the arrays
 pub record Sizes (ws left way ks stack : List ℕ) : Type 0 where

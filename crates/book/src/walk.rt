@@ -38,15 +38,16 @@ fn come(left: &mut [u64], w: u64, n: usize, p: usize, low: u64) -> bool
     true
 }
 
-// A node that has a next sibling is kept, with its depth in place of its first child.
+// The node is put on the stack, with its depth in place of its first child, and stays there if it has a next sibling.
+// It is stored in any case, as no guess of the processor at its sibling would be a good one.
 fn push(stack: &mut [u64], top: usize, w: u64, depth: usize) -> usize
     requires { ⌜ (length (now stack) ≡ 33) × (top ≤ 32) × (depth ≤ 32) ⌝ }
     ensures { λ r. ⌜ Pushed (now (stack .entry)) (now (stack .exit)) top r w depth ⌝ }
 {
+    stack[top] = w / 4294967296 * 4294967296 + depth as u64 * 65536 + w % 65536;
     if w % 65536 == 0 {
         return top;
     }
-    stack[top] = w / 4294967296 * 4294967296 + depth as u64 * 65536 + w % 65536;
     top + 1
 }
 
@@ -338,8 +339,7 @@ fn is_clear(left: &[u64]) -> bool
     requires { ⌜ length (now left) ≡ 72 ⌝ }
     ensures { λ r. ⌜ Decides (Clear (now (left .entry))) r ⌝ }
 {
-    let none = [0u64; 72];
-    bits::same(left, &none)
+    bits::next_marked(left, 0) == 4608
 }
 
 // Behind the stop with the word w, where t stops are left.
