@@ -226,7 +226,8 @@ fn is_plain(words: &[u64], way: &[u64], depth: usize) -> bool
     words[1] == last
 }
 
-// Is the record right below a whole form? Most terms of a book are the most general ones of their forms: these need no reading.
+// Is the record right below a whole form? A term that has no variable twice is the most general one of its form: where it
+// is short it is known by its words, and its cells need no reading.
 fn is_record(words: &[u64], way: &[u64], depth: usize) -> bool
     requires { ⌜ (length (now words) ≡ 8) × (length (now way) ≡ 33) × (depth ≤ 32) ⌝ }
     ensures { λ r. ⌜ TermDecided (now (words .entry)) (now (way .entry)) depth r ⌝ }
