@@ -17,7 +17,7 @@ use Rattle.tree.specs.Stops.{Stop, Standing, go-along}
 use Rattle.book.specs.Memory.{View, view, leaf, taken}
 use Rattle.book.specs.Holding.{hanging, taken-leaf}
 use Rattle.book.specs.Walk.{wants, Hangs, Told, Bare, ended-right}
-use Rattle.book.specs.State.{AtPlace, Found, Sizes, Decides, RuleAt, AskedRule, RuleEntered, Over, Ruled}
+use Rattle.book.specs.State.{AtPlace, Found, Sizes, RuleAt, RuleDecided, AskedRule, RuleEntered, Over, Ruled}
 use Rattle.book.proofs.Looking.{nodes-low, rule-number}
 use Rattle.book.proofs.Downing.{node-word, meets, no-dead-end, kept-counts, wanted-is}
 use Rattle.book.proofs.Ruling.{rule-hangs, hangs-rule}
@@ -88,8 +88,8 @@ module _ (ws left₀ left way ks stack : List ℕ) (x p low depth top : ℕ) (i 
   pub no-rule : (left′ : List ℕ) (w : ℕ) (r : Bool) → RuleEntered ws left left′ x p low w r → r ≡ false → Ruled ws left₀ left′ way ks stack depth top false
   no-rule left′ w r e q = refusal left′ (λ f. e .no q (comes f .asks))
 
-  pub other-rule : (left′ : List ℕ) (r : Bool) → Decides (RuleAt ws way (x - 4097) depth) r → r ≡ false → Ruled ws left₀ left′ way ks stack depth top false
-  other-rule left′ r d q = refusal left′ (λ f. d .1 q (hangs-rule ws way ks (i .at .row) (x - 4097) depth (i .at .kept) (i .at .cells) (i .at .deep) (i .at .short) (comes f .hangs)))
+  pub other-rule : (left′ : List ℕ) (r : Bool) → RuleDecided ws way (x - 4097) depth r → r ≡ false → Ruled ws left₀ left′ way ks stack depth top false
+  other-rule left′ r d q = refusal left′ (λ f. d .no q (hangs-rule ws way ks (i .at .row) (x - 4097) depth (i .at .kept) (i .at .cells) (i .at .deep) (i .at .short) (comes f .hangs)))
 
   -- ---- one rule along
 
@@ -100,12 +100,15 @@ module _ (ws left₀ left way ks stack : List ℕ) (x p low depth top : ℕ) (i 
     pub rule-word : (c : ℕ) → c ≡ cellOf w → c ≡ cellOf (getD ws (4169 + (x - 4097)) 0)
     rule-word c q = let l = rule-asked .rule in let d : 72 + x ≡ 4169 + (x - 4097) = omega arith in q ∙ ap cellOf (e .word t) ∙ ap (λ (k : ℕ). cellOf (getD ws k 0)) d
 
-    module _ (b : Bool) (d : Decides (RuleAt ws way (x - 4097) depth) b) (tb : b ≡ true) where
+    module _ (b : Bool) (d : RuleDecided ws way (x - 4097) depth b) (tb : b ≡ true) where
+      right : RuleAt ws way (x - 4097) depth
+      right = d .yes tb ks (i .at .row) (i .at .kept) (i .at .cells) (i .at .deep) (i .whole)
+
       hangs : Hangs (view ws) (x - 4097) (i .at .row)
-      hangs = rule-hangs ws way ks (i .at .row) (x - 4097) depth (i .at .kept) (i .at .cells) (i .at .deep) (i .at .short) (d .0 tb)
+      hangs = rule-hangs ws way ks (i .at .row) (x - 4097) depth (i .at .kept) (i .at .cells) (i .at .deep) (i .at .short) right
 
       pub rule-low : (c : ℕ) → c ≡ cellOf w → c < 4096
-      rule-low c q = subst (λ (z : ℕ). z < 4096) (sym (rule-word c q ∙ rule-number ws (x - 4097) (let k = rule-asked .most in omega arith))) (d .0 tb .low)
+      rule-low c q = subst (λ (z : ℕ). z < 4096) (sym (rule-word c q ∙ rule-number ws (x - 4097) (let k = rule-asked .most in omega arith))) (right .low)
 
       up-one : suc (x - 1) ≡ x
       up-one = let l = rule-asked .rule in omega arith

@@ -49,11 +49,11 @@ module _ (stack : List ℕ) (top w depth : ℕ) (h : depth ≤ 32) where
   with-depth : Node (w / 4294967296 * 4294967296 + depth * 65536 + w % 65536) (cellOf w) (parentOf w) depth (nextOf w)
   with-depth = record { cell = omega arith; parent = omega arith; first = omega arith; next = omega arith }
 
-  pub not-pushed : w % 65536 ≡ 0 → Pushed stack stack top top w depth
-  not-pushed e = record { word = w / 4294967296 * 4294967296 + depth * 65536 + w % 65536; is = with-depth; last = λ z. (refl, refl); more = λ z. absurd (z e) }
+  pub not-pushed : (stack′ : List ℕ) → w % 65536 ≡ 0 → stack′ ≡ set stack top (w / 4294967296 * 4294967296 + depth * 65536 + w % 65536) → Pushed stack stack′ top top w depth
+  not-pushed stack′ z e = record { word = w / 4294967296 * 4294967296 + depth * 65536 + w % 65536; is = with-depth; stored = e; last = λ q. refl; more = λ q. absurd (q z) }
 
   pub is-pushed : (stack′ : List ℕ) → ¬ (w % 65536 ≡ 0) → stack′ ≡ set stack top (w / 4294967296 * 4294967296 + depth * 65536 + w % 65536) → Pushed stack stack′ top (top + 1) w depth
-  is-pushed stack′ z e = record { word = w / 4294967296 * 4294967296 + depth * 65536 + w % 65536; is = with-depth; last = λ q. absurd (z q); more = λ q. (refl, e) }
+  is-pushed stack′ z e = record { word = w / 4294967296 * 4294967296 + depth * 65536 + w % 65536; is = with-depth; stored = e; last = λ q. absurd (z q); more = λ q. refl }
 
 pub cell-kept : (c known : ℕ) → c ≤ 32768 → c < 32768 → (c ≡ numbered c known) × (c < 65536)
 cell-kept c known l h = (sym (ap (λ (b : Bool). pickCell b c (c + known)) (lt-ltb c 32768 h)), omega arith)

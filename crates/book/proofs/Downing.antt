@@ -224,10 +224,9 @@ module _ (ws left way ks stack : List ℕ) (x p low depth top : ℕ) (s : Sizes 
 
       pushed : ¬ (nextOf w ≡ 0) → Stacked (view ws .tree) stack′ top′ (stop n (length (a .row)) ∷ a .stops)
       pushed z =
-          let q = d .more z in
-          let t : suc top ≡ top′ = omega (arith, q .0) in
+          let t : suc top ≡ top′ = omega (arith, d .more z) in
           subst (λ (k : ℕ). Stacked (view ws .tree) stack′ k (stop n (length (a .row)) ∷ a .stops)) t
-          (subst (λ (l : List ℕ). Stacked (view ws .tree) l (suc top) (stop n (length (a .row)) ∷ a .stops)) (sym (q .1))
+          (subst (λ (l : List ℕ). Stacked (view ws .tree) l (suc top) (stop n (length (a .row)) ∷ a .stops)) (sym (d .stored))
           (more (as-node (sym (getD-set-same stack top (d .word) 0 (let f = top-low in let g = asked .short in let j = s .stops in omega arith)))) (stacked-set top (d .word) (omega arith) (a .stacked))))
         where
           as-node : {u : ℕ} → d .word ≡ u → Node u (view ws .tree .cell n) (view ws .tree .parent n) (length (a .row)) (view ws .tree .next n)
@@ -242,8 +241,9 @@ module _ (ws left way ks stack : List ℕ) (x p low depth top : ℕ) (s : Sizes 
       downward = go (ℕ-discrete (nextOf w) 0)
         where
           go : Dec (nextOf w ≡ 0) → AtPlace ws left′ (set way (depth + 1) wd) (set ks (depth + 1) kk) stack′ (firstOf w) x 0 (depth + 1) top′
-          go (yes z) = let q = d .last z in at (a .stops) (with-none z)
-              (subst (λ (k : ℕ). Stacked (view ws .tree) stack′ k (a .stops)) (sym (q .0)) (subst (λ (l : List ℕ). Stacked (view ws .tree) l top (a .stops)) (sym (q .1)) (a .stacked)))
+          go (yes z) = at (a .stops) (with-none z)
+              (subst (λ (k : ℕ). Stacked (view ws .tree) stack′ k (a .stops)) (sym (d .last z))
+              (subst (λ (l : List ℕ). Stacked (view ws .tree) l top (a .stops)) (sym (d .stored)) (stacked-set top (d .word) (omega arith) (a .stacked))))
           go (no z) = at (stop n (length (a .row)) ∷ a .stops) (with-sibling z) (pushed z)
 
 -- ---- the loop

@@ -13,3 +13,4 @@ pub mod Ruling
 pub mod Along
 pub mod Ending
 pub mod Plainly
+pub mod Moving

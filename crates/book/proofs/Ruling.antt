@@ -20,7 +20,7 @@ use Rattle.book.specs.Forms.{Side, symbol, variable, side}
 use Rattle.tree.specs.Words.{cellOf}
 use Rattle.book.specs.Promises.{IsWhole}
 use Rattle.book.specs.Walk.{wants, Hangs, Told, Bare}
-use Rattle.book.specs.State.{blanks, pickCell, numbered, wordOf, Kept, none, more, Low, TermOf, Decides, RuleAt}
+use Rattle.book.specs.State.{blanks, pickCell, numbered, wordOf, Kept, none, more, Low, TermOf, Decides, TermDecided, RuleAt, RuleDecided}
 use Rattle.book.proofs.Downing.{blanks-low}
 use Rattle.book.proofs.Looking.{rule-number}
 
@@ -117,29 +117,32 @@ module _ (ws way : List ℕ) (k depth : ℕ) (hk : k < 512) (n : ℕ) (en : n �
   is-number : n ≡ number (view ws) k
   is-number = en ∙ rule-number ws k hk
 
-  pub rule-high : 4096 ≤ n → Decides (RuleAt ws way k depth) false
-  rule-high h = refuted (λ r. let l = r .low in let e = is-number in omega arith)
+  refused : ¬ (RuleAt ws way k depth) → RuleDecided ws way k depth false
+  refused h = record { yes = λ q. absurd (true≢false q refl); no = λ q. h }
 
-  pub rule-lost : (p : ℕ) → p ≡ getD (fields (take 1024 (drop 6986 ws))) n 0 → ¬ (p ≡ k) → Decides (RuleAt ws way k depth) false
-  rule-lost p e h = refuted (λ r. h (e ∙ ap (view ws .place) is-number ∙ r .found))
+  pub rule-high : 4096 ≤ n → RuleDecided ws way k depth false
+  rule-high h = refused (λ r. let l = r .low in let e = is-number in omega arith)
+
+  pub rule-lost : (p : ℕ) → p ≡ getD (fields (take 1024 (drop 6986 ws))) n 0 → ¬ (p ≡ k) → RuleDecided ws way k depth false
+  rule-lost p e h = refused (λ r. h (e ∙ ap (view ws .place) is-number ∙ r .found))
 
   size-is : getD ws (8011 + 9 * k - 1) 0 ≡ view ws .size k
   size-is = let e : 8011 + 9 * k - 1 ≡ 8010 + 9 * k = omega arith in ap (λ (j : ℕ). getD ws j 0) e
 
-  pub rule-long : ¬ (getD ws (8011 + 9 * k - 1) 0 ≡ depth) → Decides (RuleAt ws way k depth) false
-  rule-long h = refuted (λ r. h (size-is ∙ r .size))
+  pub rule-long : ¬ (getD ws (8011 + 9 * k - 1) 0 ≡ depth) → RuleDecided ws way k depth false
+  rule-long h = refused (λ r. h (size-is ∙ r .size))
 
   pub rule-is : n < 4096 → (p : ℕ) → p ≡ getD (fields (take 1024 (drop 6986 ws))) n 0 → p ≡ k → getD ws (8011 + 9 * k - 1) 0 ≡ depth
-      → (w : ℕ) → w ≡ 8 → (b : Bool) → Decides (TermOf (take w (drop (8011 + 9 * k) ws)) way depth) b → Decides (RuleAt ws way k depth) b
-  rule-is l p e f s w ew b d = (
-    (λ q. record {
+      → (w : ℕ) → w ≡ 8 → (b : Bool) → TermDecided (take w (drop (8011 + 9 * k) ws)) way depth b → RuleDecided ws way k depth b
+  rule-is l p e f s w ew b d = record {
+    yes = λ q ks row kept small deep whole. record {
       low = subst (λ (z : ℕ). z < 4096) is-number l;
       found = ap (view ws .place) (sym is-number) ∙ sym e ∙ f;
       size = sym size-is ∙ s;
-      term = subst (λ (z : ℕ). TermOf (take z (drop (8011 + 9 * k) ws)) way depth) ew (d .0 q);
-    }),
-    (λ q r. d .1 q (subst (λ (z : ℕ). TermOf (take z (drop (8011 + 9 * k) ws)) way depth) (sym ew) (r .term))),
-  )
+      term = subst (λ (z : ℕ). TermOf (take z (drop (8011 + 9 * k) ws)) way depth) ew (d .yes q ks row kept small deep whole);
+    };
+    no = λ q r. d .no q (subst (λ (z : ℕ). TermOf (take z (drop (8011 + 9 * k) ws)) way depth) (sym ew) (r .term));
+  }
 
 -- ---- it is the rule that hangs below the row of the way
 

@@ -86,12 +86,13 @@ pub record Come (left left′ : List ℕ) (w n p low : ℕ) (r : Bool) : Type 0 
   pub gone : r ≡ true → marked left′ n ≡ false
   pub others : r ≡ true → (y : ℕ) → ¬ (y ≡ n) → marked left′ y ≡ marked left y
 
--- The word w is put on the stack where it has a next sibling
+-- The word w is put on the stack, and counts where it has a next sibling
 pub record Pushed (stack stack′ : List ℕ) (top top′ w depth : ℕ) : Type 0 where
   pub word : ℕ
   pub is : Node word (cellOf w) (parentOf w) depth (nextOf w)
-  pub last : nextOf w ≡ 0 → (top′ ≡ top) × (stack′ ≡ stack)
-  pub more : ¬ (nextOf w ≡ 0) → (top′ ≡ top + 1) × (stack′ ≡ set stack top word)
+  pub stored : stack′ ≡ set stack top word
+  pub last : nextOf w ≡ 0 → top′ ≡ top
+  pub more : ¬ (nextOf w ≡ 0) → top′ ≡ top + 1
 
 -- The lengths of the memory and of the arrays
 pub record Sizes (ws left way ks stack : List ℕ) : Type 0 where
@@ -135,12 +136,31 @@ pub record TermOf (words way : List ℕ) (depth : ℕ) : Type 0 where
 abbrev pub Decides : Type 0 → Bool → Type 0
 Decides A r = (r ≡ true → A) × (r ≡ false → ¬ A)
 
+-- The words of a record are those of the way, cell by cell, and zeros: then it is the most general term of the way's form
+pub record Plain (words way : List ℕ) (depth : ℕ) : Type 0 where
+  pub short : depth ≤ 15
+  pub same : (j : ℕ) → j < depth → getD (fields words) j 0 ≡ getD way (j + 1) 0 % 65536
+  pub clean : Zeros (fields words) depth
+
+-- So it is where the way is that of a row
+abbrev pub PlainOf : (words way : List ℕ) (depth : ℕ) → Type 0
+PlainOf words way depth = (ks row : List ℕ) → Kept way ks row → Low row → length row ≡ depth → Plain words way depth
+
+-- The record is decided where the way is that of a row behind which nothing is wanted
+pub record TermDecided (words way : List ℕ) (depth : ℕ) (r : Bool) : Type 0 where
+  pub yes : r ≡ true → (ks row : List ℕ) → Kept way ks row → Low row → length row ≡ depth → wants row ≡ 0 → TermOf words way depth
+  pub no : r ≡ false → ¬ (TermOf words way depth)
+
 -- The same for the rule at the place k: its number, the place of its number, and its record
 pub record RuleAt (ws way : List ℕ) (k depth : ℕ) : Type 0 where
   pub low : number (view ws) k < 4096
   pub found : view ws .place (number (view ws) k) ≡ k
   pub size : view ws .size k ≡ depth
   pub term : TermOf (take 8 (drop (8011 + 9 * k) ws)) way depth
+
+pub record RuleDecided (ws way : List ℕ) (k depth : ℕ) (r : Bool) : Type 0 where
+  pub yes : r ≡ true → (ks row : List ℕ) → Kept way ks row → Low row → length row ≡ depth → wants row ≡ 0 → RuleAt ws way k depth
+  pub no : r ≡ false → ¬ (RuleAt ws way k depth)
 
 -- What is asked of a rule that the link x leads to, with the word w
 pub record AskedRule (left : List ℕ) (x p low w : ℕ) : Type 0 where
@@ -189,9 +209,3 @@ pub record Popped (w t x p low d top : ℕ) : Type 0 where
   pub low-is : low ≡ cellOf w + 1
   pub d-is : d ≡ firstOf w
   pub t-is : top ≡ t
-
--- The words of a record are those of the way, cell by cell, and zeros: then it is the most general term of the way's form
-pub record Plain (words way : List ℕ) (depth : ℕ) : Type 0 where
-  pub short : depth ≤ 15
-  pub same : (j : ℕ) → j < depth → getD (fields words) j 0 ≡ getD way (j + 1) 0 % 65536
-  pub clean : Zeros (fields words) depth

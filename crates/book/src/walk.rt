@@ -8,7 +8,7 @@ ghost use lib.ListN.{length, getD, set, take};
 ghost use Rattle.book.specs.Promises.{Checks};
 ghost use Rattle.book.specs.Memory.{blankNumber, number, view};
 ghost use Rattle.tree.specs.Words.{cellOf};
-ghost use Rattle.book.specs.State.{numbered, AtPlace, Sizes, Come, Pushed, Entered, Downed, TermOf, Decides, RuleAt, RuleEntered, Ruled, Clear, Popped};
+ghost use Rattle.book.specs.State.{numbered, AtPlace, Sizes, Come, Pushed, Entered, Downed, TermOf, Decides, PlainOf, TermDecided, RuleDecided, RuleEntered, Ruled, Clear, Popped};
 
 // Where the walk is: before the link x, a child of p with a cell of `low` at the least. Or it has met something wrong.
 pub struct Point {
@@ -38,15 +38,16 @@ fn come(left: &mut [u64], w: u64, n: usize, p: usize, low: u64) -> bool
     true
 }
 
-// A node that has a next sibling is kept, with its depth in place of its first child.
+// The node is put on the stack, with its depth in place of its first child, and stays there if it has a next sibling.
+// It is stored in any case, as no guess of the processor at its sibling would be a good one.
 fn push(stack: &mut [u64], top: usize, w: u64, depth: usize) -> usize
     requires { ⌜ (length (now stack) ≡ 33) × (top ≤ 32) × (depth ≤ 32) ⌝ }
     ensures { λ r. ⌜ Pushed (now (stack .entry)) (now (stack .exit)) top r w depth ⌝ }
 {
+    stack[top] = w / 4294967296 * 4294967296 + depth as u64 * 65536 + w % 65536;
     if w % 65536 == 0 {
         return top;
     }
-    stack[top] = w / 4294967296 * 4294967296 + depth as u64 * 65536 + w % 65536;
     top + 1
 }
 
@@ -192,11 +193,56 @@ fn is_term(words: &[u64], way: &[u64], depth: usize) -> bool
     same_blanks(&cells, way, depth)
 }
 
+// The last six words of a record as one, which is zero exactly if they all are.
+fn six(words: &[u64]) -> u64
+    requires { ⌜ length (now words) ≡ 8 ⌝ }
+    ensures { λ r. ⌜ (r ≡ 0 → (j : ℕ) → 2 ≤ j → getD (now (words .entry)) j 0 ≡ 0) ⌝ }
+{
+    words[2] | words[3] | words[4] | words[5] | words[6] | words[7]
+}
+
+// Has the record just the cells of the way, eight at the most? The way has the last four cells of each beginning, the
+// latest lowest: the record begins with those of the first four, and the shift puts the last ones where a record has them.
+fn is_plain(words: &[u64], way: &[u64], depth: usize) -> bool
+    requires { ⌜ (length (now words) ≡ 8) × (length (now way) ≡ 33) ⌝ }
+    ensures { λ r. ⌜ (r ≡ true → PlainOf (now (words .entry)) (now (way .entry)) depth) ⌝ }
+{
+    if 8 < depth {
+        return false;
+    }
+    if six(words) != 0 {
+        return false;
+    }
+    let last = way[depth] << ((8 - depth) % 4 * 16);
+    if depth <= 4 {
+        if words[1] != 0 {
+            return false;
+        }
+        return words[0] == last;
+    }
+    if words[0] != way[4] {
+        return false;
+    }
+    words[1] == last
+}
+
+// Is the record right below a whole form? A term that has no variable twice is the most general one of its form: where it
+// is short it is known by its words, and its cells need no reading.
+fn is_record(words: &[u64], way: &[u64], depth: usize) -> bool
+    requires { ⌜ (length (now words) ≡ 8) × (length (now way) ≡ 33) × (depth ≤ 32) ⌝ }
+    ensures { λ r. ⌜ TermDecided (now (words .entry)) (now (way .entry)) depth r ⌝ }
+{
+    if is_plain(words, way, depth) {
+        return true;
+    }
+    is_term(words, way, depth)
+}
+
 // Is the rule at the place r right, with a term of the way's form?
 fn is_rule(m: &[u64], way: &[u64], r: usize, number: u64, depth: usize) -> bool
     requires { ⌜ (length (now m) ≡ 12618) × (length (now way) ≡ 33) × (r < 512) × (depth ≤ 32) ⌝ }
     requires { ⌜ number ≡ cellOf (getD (now m) (4169 + r) 0) ⌝ }
-    ensures { λ b. ⌜ Decides (RuleAt (now (m .entry)) (now (way .entry)) r depth) b ⌝ }
+    ensures { λ b. ⌜ RuleDecided (now (m .entry)) (now (way .entry)) r depth b ⌝ }
 {
     if 4096 <= number {
         return false;
@@ -210,7 +256,7 @@ fn is_rule(m: &[u64], way: &[u64], r: usize, number: u64, depth: usize) -> bool
     if m[at - 1] != depth as u64 {
         return false;
     }
-    is_term(&m[at..end], way, depth)
+    is_record(&m[at..end], way, depth)
 }
 
 // The word of the rule that the link x leads to, a child of p with a number of `low` at the least, which is left.
@@ -294,8 +340,7 @@ fn is_clear(left: &[u64]) -> bool
     requires { ⌜ length (now left) ≡ 72 ⌝ }
     ensures { λ r. ⌜ Decides (Clear (now (left .entry))) r ⌝ }
 {
-    let none = [0u64; 72];
-    bits::same(left, &none)
+    bits::next_marked(left, 0) == 4608
 }
 
 // Behind the stop with the word w, where t stops are left.

@@ -10,7 +10,7 @@ use Rattle.book.proofs.walk.is_rule.Reads as reads
 use Rattle.book.proofs.walk.is_rule.Lts as lts
 use Rattle.bits.proofs.field.Reads as field-reads
 use Rattle.book.proofs.size_of.Reads as size-of-reads
-use Rattle.book.proofs.walk.is_term.Reads as is-term-reads
+use Rattle.book.proofs.walk.is_record.Reads as is-record-reads
 
 -- src/walk.rt:201:9
 returns : tie.Need-returns
@@ -69,31 +69,31 @@ returns-3 : tie.Need-returns-3
 returns-3 c = let s = c .before .before .before .before .before .before .before .before .before in rule-long (s .args .m .now) (s .args .way .now) (s .args .r) (s .args .depth) (s .pre .0 .2) (s .args .number) (s .pre .1) (c .if3 .taken)
 
 -- src/walk.rt:212:13
-mul-is-term : tie.Need-mul-is-term
-mul-is-term c = search needs
+mul-is-record : tie.Need-mul-is-record
+mul-is-record c = search needs
 
 -- src/walk.rt:212:13
-sub-is-term : tie.Need-sub-is-term
-sub-is-term c = search needs
+sub-is-record : tie.Need-sub-is-record
+sub-is-record c = search needs
 
 -- src/walk.rt:212:13
-part-is-term-start : tie.Need-part-is-term-start
-part-is-term-start c = search needs
+part-is-record-start : tie.Need-part-is-record-start
+part-is-record-start c = search needs
 
 -- src/walk.rt:212:13
-part-is-term-end : tie.Need-part-is-term-end
-part-is-term-end c = search needs
+part-is-record-end : tie.Need-part-is-record-end
+part-is-record-end c = search needs
 
 -- src/walk.rt:212:5
-is-term-requires : tie.Need-is-term-requires
-is-term-requires c κs = search needs
+is-record-requires : tie.Need-is-record-requires
+is-record-requires c κs = search needs
 
 -- src/walk.rt:195:1
 returns-4 : tie.Need-returns-4
 returns-4 c =
     let s = c .before .before .before .before .before .before .before .before .before .before .before in
     let p = c .before .before .before .before .before .size-of in
-    rule-is (s .args .m .now) (s .args .way .now) (s .args .r) (s .args .depth) (s .pre .0 .2) (s .args .number) (s .pre .1) (c .before .before .before .before .before .before .before .before .if1 .left) (p .result) (p .ensures ∙ c .before .before .before .before .before .before .field .ensures) (c .before .before .before .before .if2 .left) (c .before .before .if3 .left) (8011 + 9 * s .args .r + 8 - (8011 + 9 * s .args .r)) (omega arith) (c .is-term .result) (c .is-term .ensures)
+    rule-is (s .args .m .now) (s .args .way .now) (s .args .r) (s .args .depth) (s .pre .0 .2) (s .args .number) (s .pre .1) (c .before .before .before .before .before .before .before .before .if1 .left) (p .result) (p .ensures ∙ c .before .before .before .before .before .before .field .ensures) (c .before .before .before .before .if2 .left) (c .before .before .if3 .left) (8011 + 9 * s .args .r + 8 - (8011 + 9 * s .args .r)) (omega arith) (c .is-record .result) (c .is-record .ensures)
 
 pub is-rule-spec : {M : Type 1} → statement M
 is-rule-spec =
@@ -113,9 +113,9 @@ is-rule-spec =
     mul-if3
     shared-slice-read-if3
     returns-3
-    mul-is-term
-    sub-is-term
-    part-is-term-start
-    part-is-term-end
-    is-term-requires
+    mul-is-record
+    sub-is-record
+    part-is-record-start
+    part-is-record-end
+    is-record-requires
     returns-4)
