@@ -4,16 +4,14 @@ use mathlib.Core.List.{List, [], _∷_, _++_, map, List·Memᴰ, Memᴰ·append-
 use mathlib.Core.Bool.{Bool, true, false}
 use Prim.Native.Nat.{ℕ, zero, suc, _+_, _-_, _≤_, _<_}
 use native.Mathlib.Omega.{arith}
-use lib.ListN.{length, getD, set, take, drop, length-take, replicate, length-append, length-replicate, List·getD-eq-default}
-use native.Mathlib.Decide.{ℕ-discrete, decLt}
-use borrow.Author.Tests.{ne-eqb}
-use lib.Dec.{eqb}
+use lib.ListN.{length, getD, set, take, drop, length-take, replicate, length-append, length-replicate}
+use native.Mathlib.Decide.{ℕ-discrete}
 use lib.Seq.{getD-take, getD-set-same, getD-set-other, ext-getD}
-use Rattle.bits.specs.Packed.{bits, First}
-use Rattle.bits.specs.Laws.{length-bits}
+use Rattle.bits.specs.Packed.{bits}
 use Rattle.term.specs.Counting.{true≢false}
 use Rattle.tree.specs.Shape.{child, after, Used, to}
 use Rattle.tree.specs.Tally.{tally, marked}
+use Rattle.tree.specs.Tallies.{same-bits, no-mark}
 use Rattle.tree.specs.Words.{cellOf, parentOf, firstOf, nextOf, word, Node}
 use Rattle.tree.specs.Down.{Walking, ended, all-seen}
 use Rattle.tree.specs.Stops.{Stop, stop, Standing, set-off, go-end, go-back, Back}
@@ -41,16 +39,11 @@ copied-all ws left i size l h c = ext-getD 0 left (take 72 ws) (omega (arith, le
 
 -- ---- none is left
 
-module _ (left : List ℕ) (long : length left ≡ 72) (r : ℕ) (f : First 1 (bits left) 0 r) where
-  pub clear-yes : r ≡ 4608 → Clear left
-  clear-yes e n = go (decLt n 4608)
-    where
-      go : Dec (n < 4608) → marked left n ≡ false
-      go (yes h) = ne-eqb (getD (bits left) n 0) 1 (f .before n (omega arith) (omega arith))
-      go (no h) = ap (λ (b : ℕ). eqb b 1) (List·getD-eq-default (bits left) 0 (omega (arith, length-bits left)))
+pub clear-yes : (left : List ℕ) → left ≡ replicate 72 0 → Clear left
+clear-yes left e n = ap (λ (l : List ℕ). marked l n) e ∙ no-mark 72 n
 
-  pub clear-no : ¬ (r ≡ 4608) → ¬ (Clear left)
-  clear-no n h = true≢false (ap (λ (b : ℕ). eqb b 1) (f .here (let w = f .within in omega (arith, length-bits left)))) (h r)
+pub clear-no : (left : List ℕ) → length left ≡ 72 → (bits left ≡ bits (replicate 72 0) → ⊥) → ¬ (Clear left)
+clear-no left long n h = n (same-bits left (replicate 72 0) (long ∙ sym (length-replicate {A = ℕ} 72 0)) (λ k. h k ∙ sym (no-mark 72 k)))
 
 -- ---- the answer
 

@@ -340,7 +340,8 @@ fn is_clear(left: &[u64]) -> bool
     requires { ⌜ length (now left) ≡ 72 ⌝ }
     ensures { λ r. ⌜ Decides (Clear (now (left .entry))) r ⌝ }
 {
-    bits::next_marked(left, 0) == 4608
+    let none = [0u64; 72];
+    bits::same(left, &none)
 }
 
 // Behind the stop with the word w, where t stops are left.
