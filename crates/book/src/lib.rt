@@ -11,7 +11,7 @@
 pub mod change;
 pub mod check;
 pub mod record;
-pub mod walk;
+pub mod rule;
 
 ghost use mathlib.Core.Path.{_≡_};
 ghost use Prim.Native.Nat.{_<_};
