@@ -18,7 +18,7 @@ use Rattle.questions.specs.declared.Point.{Point}
 use Rattle.questions.specs.declared.Ways.{Ways}
 use Rattle.questions.specs.Walk.{Walk, reading, listed, onDone, next, good, failed-none, listed-none}
 use Rattle.questions.specs.Promises.{walkBefore, walkAfter, Skips, stay, skip-on, Threaded, sizeAt, heightAt, hitsAt, Ready, beside, siblings, besideOf, belowOf, Left, PassesNode}
-use Rattle.questions.proofs.Seeking.{met-step}
+use Rattle.questions.proofs.Seeking.{any-met, met-step}
 use Rattle.questions.proofs.Threads.{tree, bound, word-of, beside-threaded}
 
 positive : (t : Trie) → 0 < size t
@@ -179,11 +179,22 @@ passed-walk : (fq fr : Bool) (q : List ℕ) (c skip place s : ℕ) → 0 < skip 
 passed-walk fq fr q c zero place s h e = absurd (omega arith)
 passed-walk fq fr q c (suc k) place s h e = ap (λ (y : ℕ). reading (at y (drop place (blankForm q)))) (omega (arith, e))
 
-pub passing : (fq fr : Bool) (ws q : List ℕ) → ((i : ℕ) → getD ws i 0 < 2 ^ 64) → (p : Point) → Ready fq fr ws q p → ¬ (p .link ≡ 0) → 0 < p .skip → (v : Ways) → PassesNode ws p v → Left fq fr ws q p [] v
-passing fq fr ws q words p r some h v a =
-    goes-on fq fr ws q words p r some v (a .beside) (a .down)
-    (passed-walk fq fr q (cellOf (getD ws (72 + p .link) 0)) (p .skip) (p .place) (v .skip) h (a .skip) ∙ ap (walkBefore q (v .skip)) (sym (a .place)))
-    (subst (λ (x : ℕ). x ≤ length q) (sym (a .place)) (r .inside)) (a .few)
+module _ (fq fr : Bool) (ws q : List ℕ) (words : (i : ℕ) → getD ws i 0 < 2 ^ 64) (p : Point) (r : Ready fq fr ws q p) (some : ¬ (p .link ≡ 0)) (v : Ways) where
+  pub passing : 0 < p .skip → PassesNode ws (p .link) (p .skip - 1) (p .place) v → Left fq fr ws q p [] v
+  passing h a =
+      goes-on fq fr ws q words p r some v (a .beside) (a .down)
+      (passed-walk fq fr q (cellOf (getD ws (72 + p .link) 0)) (p .skip) (p .place) (v .skip) h (a .skip) ∙ ap (walkBefore q (v .skip)) (sym (a .place-is)))
+      (subst (λ (x : ℕ). x ≤ length q) (sym (a .place-is)) (r .inside)) (let f = a .few in omega arith)
+
+  -- the question's cell is filled with the node's
+  pub filling : p .skip ≤ 0 → p .place < length q → fq ≡ true → 32768 ≤ getD q (p .place) 0 → PassesNode ws (p .link) 0 (p .place + 1) v → Left fq fr ws q p [] v
+  filling z h f l a =
+      let none : p .skip ≡ 0 = omega arith in
+      let one : suc (p .place) ≡ v .place = omega (arith, a .place-is) in
+      let all : arity (blankOf (cellOf (getD ws (72 + p .link) 0))) ≡ v .skip = omega (arith, a .skip) in
+      goes-on fq fr ws q words p r some v (a .beside) (a .down)
+      (ap (λ (k : ℕ). next fq fr (cellOf (getD ws (72 + p .link) 0)) (walkBefore q k (p .place))) none ∙ any-met fq fr q (p .place) (cellOf (getD ws (72 + p .link) 0)) h f l ∙ ap₂ (walkBefore q) all one)
+      (let e = a .place-is in omega arith) (let f = a .few in omega arith)
 
 -- ---- siblings that are skipped
 

@@ -8,7 +8,7 @@ use native.Mathlib.Omega.{arith}
 use native.Mathlib.Decide.{ℕ-discrete, decLt}
 use borrow.Author.Tests.{lt-ltb, le-ltb, ne-eqb}
 use lib.ListN.{length, getD, drop}
-use Rattle.term.specs.Cells.{Cell, symb, star, Row, Blank, pickCell, blankOf, blankForm}
+use Rattle.term.specs.Cells.{Cell, vari, symb, star, Row, Blank, pickCell, arity, blankOf, blankForm}
 use Rattle.term.specs.Machine.{failed, at, past, meet, onlyIf, step}
 use Rattle.term.specs.Steps.{spot}
 use Rattle.tree.specs.Words.{cellOf, nextOf}
@@ -40,6 +40,14 @@ module _ (fq fr : Bool) (q : List ℕ) (place d : ℕ) (h : place < length q) wh
   pub met-step : next fq fr d (walkBefore q 0 place) ≡ reading (step fq fr (blankOf d) (spot q true 0 place))
   met-step = ap (λ (r : Row Blank). next fq fr d (reading (at 0 r))) (cells-from q place h) ∙ sym (ap (λ (r : Row Blank). reading (step fq fr (blankOf d) (at 0 r))) (cells-from q place h))
 
+  -- whatever the rule's cell is, where the question's may be filled
+  pub any-met : fq ≡ true → 32768 ≤ getD q place 0 → next fq fr d (walkBefore q 0 place) ≡ reading (at (arity (blankOf d)) (drop (suc place) (blankForm q)))
+  any-met f l = met ∙ ap (λ (e : Cell Blank). reading (meet fq fr (blankOf d) e (drop (suc place) (blankForm q)))) (variable (getD q place 0) l) ∙ go (blankOf d)
+    where
+      go : (c : Cell Blank) → reading (meet fq fr c star (drop (suc place) (blankForm q))) ≡ reading (at (arity c) (drop (suc place) (blankForm q)))
+      go (vari x) = refl
+      go (symb c) = ap (λ (b : Bool). reading (onlyIf b (at (c / 4096) (drop (suc place) (blankForm q))))) f
+
   pub other-symbol : d < 32768 → getD q place 0 < 32768 → ¬ (d ≡ getD q place 0) → next fq fr d (walkBefore q 0 place) ≡ reading failed
   other-symbol s l n =
       met ∙ ap₂ (λ (c e : Cell Blank). reading (meet fq fr c e (drop (suc place) (blankForm q)))) (symbol d s) (symbol (getD q place 0) l)
@@ -56,17 +64,17 @@ module _ (fq fr : Bool) (q : List ℕ) (place d : ℕ) (h : place < length q) wh
       ∙ ap (λ (b : Bool). reading (onlyIf b (at 0 (past (getD q place 0 / 4096) (drop (suc place) (blankForm q)))))) f
 
 pub one-symbol : (fq : Bool) (q : List ℕ) (place : ℕ) → place < length q → getD q place 0 < 32768 → Decisive fq q place (getD q place 0)
-one-symbol fq q place h l = record { symbols = λ _ fr d s n. other-symbol fq fr q place d h s l n; any = λ _ d n. go d n (decLt d 32768) }
+one-symbol fq q place h l = record { free = λ e. absurd (omega arith); symbols = λ _ fr d s n. other-symbol fq fr q place d h s l n; any = λ _ d n. go d n (decLt d 32768) }
   where
     go : (d : ℕ) → ¬ (d ≡ getD q place 0) → Dec (d < 32768) → next fq false d (walkBefore q 0 place) ≡ reading failed
     go d n (yes s) = other-symbol fq false q place d h s l n
     go d n (no s) = no-blank fq false q place d h (omega arith) l refl
 
 pub no-symbols : (fq : Bool) (q : List ℕ) (place : ℕ) → place < length q → 32768 ≤ getD q place 0 → fq ≡ false → Decisive fq q place 32768
-no-symbols fq q place h l f = record { symbols = λ _ fr d s n. no-symbol fq fr q place d h s l f; any = λ x. absurd (omega arith) }
+no-symbols fq q place h l f = record { free = λ e. absurd (omega arith); symbols = λ _ fr d s n. no-symbol fq fr q place d h s l f; any = λ x. absurd (omega arith) }
 
-pub any-cell : (fq : Bool) (q : List ℕ) (place : ℕ) → Decisive fq q place 65536
-any-cell fq q place = record { symbols = λ n. absurd (n refl); any = λ x. absurd (omega arith) }
+pub any-cell : (fq : Bool) (q : List ℕ) (place : ℕ) → fq ≡ true → 32768 ≤ getD q place 0 → Decisive fq q place 65536
+any-cell fq q place f l = record { free = λ _. (f, l); symbols = λ n. absurd (n refl); any = λ x. absurd (omega arith) }
 
 -- what is passed by is skipped
 skipping : (fq fr : Bool) (ws q : List ℕ) (place cell link x : ℕ) → ¬ (cell ≡ 65536) → Decisive fq q place cell → PassesBy ws cell link x → Skips fq fr ws q place link x

@@ -3,7 +3,7 @@ use mathlib.Core.Path.{_≡_}
 use mathlib.Core.Logic.{_⊎_, _↔_}
 use mathlib.Core.List.{List, [], _∷_, _++_, List·Memᴰ}
 use mathlib.Core.Bool.{Bool, true, false}
-use Prim.Native.Nat.{ℕ, suc, _+_, _-_, _*_, _/_, _%_, _≤_, _<_}
+use Prim.Native.Nat.{ℕ, suc, _+_, _*_, _/_, _%_, _≤_, _<_}
 use lib.ListN.{length, getD, drop}
 use Rattle.bits.specs.Numbers.{has, Member, NumberSet}
 use Rattle.term.specs.Cells.{arity, blankOf, blankForm}
@@ -54,8 +54,10 @@ pub data Skips (fq fr : Bool) (ws question : List ℕ) (place link : ℕ) : ℕ 
   stay : Skips fq fr ws question place link link
   skip-on : {x : ℕ} → Skips fq fr ws question place link x → ¬ (x ≡ 0) → walkAfter fq fr question (getD ws (72 + x) 0) 0 place ≡ reading failed → Skips fq fr ws question place link (nextOf (getD ws (72 + x) 0))
 
--- Unless it is 65,536, each other symbol makes the machine fail, and where it is a symbol and the rule's blanks may not be filled, any other cell.
+-- Where it is 65,536 the question's cell may be filled. Else each other symbol makes the machine fail, and where it is a symbol and the rule's blanks
+-- may not be filled, any other cell.
 pub record Decisive (fq : Bool) (question : List ℕ) (place cell : ℕ) : Type 0 where
+  pub free : cell ≡ 65536 → (fq ≡ true) × (32768 ≤ getD question place 0)
   pub symbols : ¬ (cell ≡ 65536) → (fr : Bool) (d : ℕ) → d < 32768 → ¬ (d ≡ cell) → next fq fr d (walkBefore question 0 place) ≡ reading failed
   pub any : cell < 32768 → (d : ℕ) → ¬ (d ≡ cell) → next fq false d (walkBefore question 0 place) ≡ reading failed
 
@@ -123,13 +125,13 @@ pub record Left (fq fr : Bool) (ws question : List ℕ) (p : Point) (nodes : Lis
   pub below : Ready fq fr ws question (belowOf r)
   pub beside : Ready fq fr ws question (besideOf p r)
 
--- A node is passed: one subterm less to skip, and its arguments more.
-pub record PassesNode (ws : List ℕ) (p : Point) (r : Ways) : Type 0 where
-  pub beside : r .beside ≡ nextOf (getD ws (72 + p .link) 0)
-  pub down : r .down ≡ firstOf (getD ws (72 + p .link) 0)
-  pub skip : r .skip ≡ p .skip - 1 + arity (blankOf (cellOf (getD ws (72 + p .link) 0)))
-  pub place : r .place ≡ p .place
-  pub few : r .skip ≤ p .skip + 7
+-- A node is passed: its arguments are to be skipped, and so many subterms more.
+pub record PassesNode (ws : List ℕ) (link left place : ℕ) (r : Ways) : Type 0 where
+  pub beside : r .beside ≡ nextOf (getD ws (72 + link) 0)
+  pub down : r .down ≡ firstOf (getD ws (72 + link) 0)
+  pub skip : r .skip ≡ left + arity (blankOf (cellOf (getD ws (72 + link) 0)))
+  pub place-is : r .place ≡ place
+  pub few : r .skip ≤ left + 7
 
 -- A point is tried: some nodes are marked, and it leaves the rest.
 pub record Tried (fq fr : Bool) (ws question marks marks′ : List ℕ) (p : Point) (r : Ways) : Type 0 where

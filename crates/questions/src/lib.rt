@@ -13,7 +13,7 @@ ghost use Rattle.book.specs.Promises.{IsTerm};
 ghost use Rattle.bits.specs.Numbers.{NumberSet, has};
 ghost use Rattle.tree.specs.Words.{cellOf, firstOf};
 ghost use Rattle.questions.specs.Asking.{numbers};
-ghost use Rattle.questions.specs.Promises.{Onwards, Sought, Decisive, LastWanted, Skips, Threaded, PassesNode, Numbered, Marked, siblings, Ready, Left, Tried, pointIn, Searched, Lists};
+ghost use Rattle.questions.specs.Promises.{Onwards, Sought, Decisive, LastWanted, Threaded, PassesNode, Numbered, Marked, siblings, Ready, Left, Tried, pointIn, Searched, Lists};
 use term::machine;
 
 // A point to be tried: a link, the subterms of a rule still to skip there, and the place in the question.
@@ -109,39 +109,19 @@ fn last_wanted(fills_rule: bool, cell: u64) -> u64
     cell
 }
 
-// The link from which on the machine may go on.
-fn seek(
-    m: &[u64],
-    fills_question: bool,
-    fills_rule: bool,
-    question: &[u16],
-    link: usize,
-    place: usize,
-) -> usize
-    requires { ⌜ Threaded (now m) link × (place < length (now question)) ⌝ }
-    ensures { λ r. ⌜ Skips «fills_question» «fills_rule» (now (m .entry)) (now (question .entry)) place link r ⌝ }
+// A node that is passed, whatever its cell is: below it its arguments are to be skipped, and what is left of the subterms.
+fn pass_node(m: &[u64], link: usize, left: usize, place: usize) -> Ways
+    requires { ⌜ (length (now m) ≡ 12618) × (link ≤ 4608) ⌝ }
+    requires { ⌜ left ≤ 231 ⌝ }
+    ensures { λ r. ⌜ PassesNode (now (m .entry)) link left place r ⌝ }
 {
-    let c = wanted(fills_question, question, place);
-    if c == 65536 {
-        return link;
-    }
-    sibling(m, c, last_wanted(fills_rule, c), link)
-}
-
-// A node that is passed, since there are subterms to skip: one less, and its arguments.
-fn pass_node(m: &[u64], p: Point) -> Ways
-    requires { ⌜ (length (now m) ≡ 12618) × (p .link ≤ 4608) ⌝ }
-    requires { ⌜ (0 < p .skip) × (p .skip ≤ 231) ⌝ }
-    ensures { λ r. ⌜ PassesNode (now (m .entry)) p r ⌝ }
-{
-    let link = p.link;
     let w = m[72 + link];
-    let skip = p.skip - 1 + term::arity(tree::cell_of(w) as u16);
+    let skip = left + term::arity(tree::cell_of(w) as u16);
     Ways {
         beside: tree::next_of(w) as usize,
         down: tree::first_of(w) as usize,
         skip,
-        place: p.place,
+        place,
     }
 }
 
@@ -159,26 +139,28 @@ fn mark_rules(m: &[u64], marks: &mut [u64], link: usize)
     }
 }
 
-// The machine's step at a node whose cell meets the question's: the first such node from the point on.
-fn meet_node(m: &[u64], fills_question: bool, fills_rule: bool, question: &[u16], p: Point) -> Ways
+// The machine's step at the first node from the point on at which it may go on, where one cell is wanted.
+fn meet_node(
+    m: &[u64],
+    fills_question: bool,
+    fills_rule: bool,
+    question: &[u16],
+    p: Point,
+    cell: u64,
+) -> Ways
     requires { ⌜ Ready «fills_question» «fills_rule» (now m) (now question) p ⌝ }
     requires { ⌜ (p .skip ≤ 0) × (p .place < length (now question)) ⌝ }
-    requires { ⌜ (p .link ≡ 0 → ⊥) ⌝ }
+    requires { ⌜ Decisive «fills_question» (now question) (p .place) cell ⌝ }
+    requires { ⌜ (p .link ≡ 0 → ⊥) × (cell ≡ 65536 → ⊥) ⌝ }
     ensures { λ r. ⌜ Left «fills_question» «fills_rule» (now (m .entry)) (now (question .entry)) p [] r ⌝ }
 {
-    let place = p.place;
-    let x = seek(m, fills_question, fills_rule, question, p.link, place);
+    let x = sibling(m, cell, last_wanted(fills_rule, cell), p.link);
     if x == 0 {
         return nowhere();
     }
     let w = m[72 + x];
-    let s = machine::meet(
-        fills_question,
-        fills_rule,
-        question,
-        tree::cell_of(w) as u16,
-        place,
-    );
+    let c = tree::cell_of(w) as u16;
+    let s = machine::meet(fills_question, fills_rule, question, c, p.place);
     let beside = tree::next_of(w) as usize;
     if s.alive {
         return Ways {
@@ -196,8 +178,8 @@ fn meet_node(m: &[u64], fills_question: bool, fills_rule: bool, question: &[u16]
     }
 }
 
-// Tries a point: a node is passed where there are subterms to skip; at the question's end all siblings are rules that answer;
-// else a cell is met.
+// Tries a point. Where there are subterms to skip any node does, and where the question's cell may be filled; at the question's
+// end all siblings are rules that answer; else one cell is wanted.
 fn try_point(
     m: &[u64],
     fills_question: bool,
@@ -212,13 +194,17 @@ fn try_point(
     ensures { λ r. ⌜ Tried «fills_question» «fills_rule» (now (m .entry)) (now (question .entry)) (now (marks .entry)) (now (marks .exit)) p r ⌝ }
 {
     if 0 < p.skip {
-        return pass_node(m, p);
+        return pass_node(m, p.link, p.skip - 1, p.place);
     }
     if question.len() <= p.place {
         mark_rules(m, marks, p.link);
         return nowhere();
     }
-    meet_node(m, fills_question, fills_rule, question, p)
+    let cell = wanted(fills_question, question, p.place);
+    if cell == 65536 {
+        return pass_node(m, p.link, 0, p.place + 1);
+    }
+    meet_node(m, fills_question, fills_rule, question, p, cell)
 }
 
 // A point in one number.

@@ -1,4 +1,4 @@
--- The three cases are a node that is passed, rules that answer, and two cells that meet.
+-- The cases are a node that is passed or fills the question's cell, rules that answer, and a cell that is wanted.
 use borrow.Author.Needs.{needs}
 use mathlib.Core.Path.{_≡_, refl, sym, _∙_, subst}
 use mathlib.Core.List.{[]}
@@ -7,7 +7,7 @@ use native.Mathlib.Omega.{arith}
 use lib.ListN.{length, getD}
 use Rattle.questions.specs.Promises.{siblings, Left}
 use Rattle.questions.proofs.Threads.{in-tree}
-use Rattle.questions.proofs.Leaving.{few-here, all-gone, passing}
+use Rattle.questions.proofs.Leaving.{few-here, all-gone, passing, filling}
 use Rattle.questions.proofs.Marking.{marks-none, all-answer, numbered}
 use Rattle.questions.proofs.try_point.Statement.{statement}
 use Rattle.questions.proofs.try_point.Tie as tie
@@ -19,22 +19,25 @@ module _ (k : tie.After-struct-known) where
   words : (i : ℕ) → getD (start .args .m .now) i 0 < 2 ^ 64
   words i = k .before .before .before .shared-slice-known .given i .fits
 
+  node : (length (start .args .m .now) ≡ 12618) × (start .args .p .link ≤ 4608)
+  node = (start .pre .0 .threaded .passing .size, in-tree (start .args .m .now) (start .args .p .link) (start .pre .0 .threaded) (start .pre .1 .0))
+
 pass-node-requires : tie.Need-pass-node-requires
 pass-node-requires c κs =
-    let s = start (c .before) in
-    let h = s .pre .0 in (
-      (h .threaded .passing .size, in-tree (s .args .m .now) (s .args .p .link) (h .threaded) (s .pre .1 .0)),
-      (c .if1 .taken, few-here (s .args .fills-question) (s .args .fills-rule) (s .args .m .now) (s .args .question .now) (words (c .before)) (s .args .p) h),
-    )
+    let k = c .before .before in
+    let s = start k in
+    let h = few-here (s .args .fills-question) (s .args .fills-rule) (s .args .m .now) (s .args .question .now) (words k) (s .args .p) (s .pre .0) in
+    (node k, omega arith)
 
 returns : tie.Need-returns
 returns c =
-    let k = c .before .before in
+    let t = c .before .before in
+    let k = t .before in
     let s = start k in
     record {
       nodes = [];
       marked = marks-none (s .args .m .now) (s .args .marks .now) (s .pre .1 .1);
-      left = passing (s .args .fills-question) (s .args .fills-rule) (s .args .m .now) (s .args .question .now) (words k) (s .args .p) (s .pre .0) (s .pre .1 .0) (c .before .if1 .taken) _ (c .pass-node .ensures);
+      left = passing (s .args .fills-question) (s .args .fills-rule) (s .args .m .now) (s .args .question .now) (words k) (s .args .p) (s .pre .0) (s .pre .1 .0) _ (t .if1 .taken) (c .pass-node .ensures);
     }
 
 mark-rules-requires : tie.Need-mark-rules-requires
@@ -59,8 +62,36 @@ returns-2 c =
 
 returns-3 : tie.Need-returns-3
 returns-3 c =
-    let s = start (c .before .before .before .before) in
+    let t = c .before .before in
+    let n = t .before .before in
+    let e = n .before .before in
+    let s = start (e .before) in
+    let f = t .before .wanted .ensures .free (t .if3 .taken) in
+    record {
+      nodes = [];
+      marked = marks-none (s .args .m .now) (s .args .marks .now) (s .pre .1 .1);
+      left = filling (s .args .fills-question) (s .args .fills-rule) (s .args .m .now) (s .args .question .now) (words (e .before)) (s .args .p) (s .pre .0) (s .pre .1 .0) _ (e .if1 .left) (n .if2 .left) (f .0) (f .1) (c .pass-node2 .ensures);
+    }
+
+returns-4 : tie.Need-returns-4
+returns-4 c =
+    let s = start (c .before .before .before .before .before .before) in
     record { nodes = []; marked = marks-none (s .args .m .now) (s .args .marks .now) (s .pre .1 .1); left = c .meet-node .ensures }
 
 pub try-point-spec : {M : Type 1} → statement M
-try-point-spec = tie.close (tie.spec pass-node-requires returns mark-rules-requires (λ c κs. search needs) (λ c. search needs) returns-2 (λ c κs. search needs) returns-3)
+try-point-spec =
+    tie.close
+    (tie.spec
+    (λ c. search needs)
+    pass-node-requires
+    returns
+    mark-rules-requires
+    (λ c κs. search needs)
+    (λ c. search needs)
+    returns-2
+    (λ c κs. search needs)
+    (λ c. search needs)
+    (λ c κs. (node (c .before .before .before .before .before .before), omega arith))
+    returns-3
+    (λ c κs. search needs)
+    returns-4)
