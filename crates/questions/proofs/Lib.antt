@@ -2,10 +2,8 @@
 pub mod Threads
 pub mod Leaps
 pub mod Seeking
-pub mod Deciding
-pub mod Lending
+pub mod Leaving
+pub mod Marking
+pub mod Packing
 pub mod Searching
-pub mod Trying
-pub mod Shrinking
-pub mod Turning
 pub mod Writing

@@ -1,142 +1,47 @@
 // The four questions: one search over the book's tree.
 //
-// The points still to be tried stand on a list, one a level: a link, and where the machine stands before it. At a node the
-// machine takes one step. Where it goes on, the node's first child comes on the list; where it was done before, the node is
-// a rule that answers. Variants, instances, generalisations and unifiables differ in two flags and in nothing else.
+// The point that is tried is at hand: a link, and where the machine stands before it. Others wait on a list, one a level. At a
+// node the machine takes one step; where it goes on, the node's first child is tried next, and its sibling waits. Where the
+// machine is done, the node and all its later siblings are rules that answer. Variants, instances, generalisations and
+// unifiables differ in two flags and in nothing else.
 ghost use mathlib.Core.Path.{_≡_};
 ghost use Prim.Native.Nat.{_<_, _≤_};
-ghost use lib.ListN.{length};
-ghost use Rattle.term.specs.Steps.{Stands};
+ghost use mathlib.Core.List.{[]};
+ghost use lib.ListN.{length, getD};
 ghost use Rattle.book.specs.Memory.{Passing};
 ghost use Rattle.book.specs.Promises.{IsTerm};
 ghost use Rattle.bits.specs.Numbers.{NumberSet, has};
-ghost use Rattle.tree.specs.Words.{cellOf};
+ghost use Rattle.tree.specs.Words.{cellOf, firstOf};
 ghost use Rattle.questions.specs.Asking.{numbers};
-ghost use Rattle.questions.specs.Promises.{Turned, Stacks, Stacked, Onwards, Begins, Sought, Decisive, Skips, moved, Threaded, Stood, Became, Steady, Went, IsRoot, Rooted, Searched, Lists};
+ghost use Rattle.questions.specs.Promises.{Onwards, Begins, Sought, Decisive, LastWanted, Threaded, PassesNode, Numbered, Marked, siblings, Ready, Left, Tried, pointIn, Searched, Lists};
 use term::machine;
 
-// A point still to be tried: a link, the subterms of a rule still to skip there, and the place in the question. It is small, since
-// each question makes a list of them.
+// A point to be tried: a link, the subterms of a rule still to skip there, and the place in the question.
 pub struct Point {
-    pub link: u16,
-    pub skip: u16,
-    pub place: u16,
+    pub link: usize,
+    pub skip: usize,
+    pub place: usize,
 }
 
-// What to do at a node: its rule is listed; or its first child is the link to go down to, with the machine's next spot; or
-// neither, and the link is 0.
-pub struct Decision {
-    pub listed: bool,
-    pub down: u16,
-    pub skip: u16,
-    pub place: u16,
+// What is left to be tried after a node: its sibling, where the machine stands as it did before; and its first child, with the
+// machine's next spot. A link is 0 where there is nothing.
+pub struct Ways {
+    pub beside: usize,
+    pub down: usize,
+    pub skip: usize,
+    pub place: usize,
 }
 
-// All that is decided at a node whose word is w.
-pub fn decide(
-    fills_question: bool,
-    fills_rule: bool,
-    question: &[u16],
-    w: u64,
-    skip: usize,
-    place: usize,
-) -> Decision
-    requires { ⌜ Stands (now question) skip place ⌝ }
-    requires { ⌜ skip ≤ 231 ⌝ }
-    ensures { λ r. ⌜ Turned «fills_question» «fills_rule» (now (question .entry)) w skip place (r .listed) (r .down) (r .skip) (r .place) ⌝ }
+// Nothing is left.
+fn nowhere() -> Ways
+    ensures { λ r. ⌜ r ≡ record { beside = 0; down = 0; skip = 0; place = 0 } ⌝ }
 {
-    if machine::accepts(question, skip, place) {
-        return Decision {
-            listed: true,
-            down: 0,
-            skip: 0,
-            place: 0,
-        };
-    }
-    let s = machine::step(
-        fills_question,
-        fills_rule,
-        question,
-        tree::cell_of(w) as u16,
-        skip,
-        place,
-    );
-    if s.alive {
-        let skip = s.skip as u16;
-        return Decision {
-            listed: false,
-            down: tree::first_of(w) as u16,
-            skip,
-            place: s.place as u16,
-        };
-    }
-    Decision {
-        listed: false,
+    Ways {
+        beside: 0,
         down: 0,
         skip: 0,
         place: 0,
     }
-}
-
-// What the list becomes after a turn: the point that was tried, the point above it, and how many stand.
-pub struct Points {
-    pub beside: Point,
-    pub below: Point,
-    pub depth: usize,
-}
-
-// The points of a node's sibling and of its first child, in the place of the last of `depth`: each stands where it has a node, and
-// without a sibling the child takes the place.
-fn stack(beside: Point, below: Point, depth: usize) -> Points
-    requires { ⌜ 0 < depth ⌝ }
-    requires { ⌜ depth ≤ 34 ⌝ }
-    ensures { λ r. ⌜ Stacks beside below depth r ⌝ }
-{
-    if beside.link == 0 {
-        if below.link == 0 {
-            return Points {
-                beside,
-                below,
-                depth: depth - 1,
-            };
-        }
-        return Points {
-            beside: below,
-            below,
-            depth,
-        };
-    }
-    if below.link == 0 {
-        return Points {
-            beside,
-            below,
-            depth,
-        };
-    }
-    Points {
-        beside,
-        below,
-        depth: depth + 1,
-    }
-}
-
-// The points after the node with the word w was tried at the point p, the last of `depth`, and t was decided.
-pub fn place_points(w: u64, p: Point, t: Decision, depth: usize) -> Points
-    requires { ⌜ 0 < depth ⌝ }
-    requires { ⌜ depth ≤ 34 ⌝ }
-    ensures { λ r. ⌜ Stacked w p (t .down) (t .skip) (t .place) depth r ⌝ }
-{
-    let beside = Point {
-        link: tree::next_of(w) as u16,
-        skip: p.skip,
-        place: p.place,
-    };
-    let below = Point {
-        link: t.down,
-        skip: t.skip,
-        place: t.place,
-    };
-    stack(beside, below, depth)
 }
 
 // The sibling to look at after the node with the word w: the next, as long as a symbol wanted is ahead; else the last, if it is known,
@@ -199,17 +104,12 @@ fn sibling(m: &[u64], cell: u64, last: u64, link: usize) -> usize
     x
 }
 
-// The one symbol with which the machine can go on, 0x8000 where it is no symbol, or 65,536 where it may be any: there are
-// subterms to skip, or the question is at its end, or its cell may be filled.
-fn wanted(fills_question: bool, question: &[u16], skip: usize, place: usize) -> u64
-    ensures { λ r. ⌜ Decisive «fills_question» (now (question .entry)) skip place r ⌝ }
+// The one symbol with which the machine can go on, 0x8000 where it is no symbol, or 65,536 where it may be any, since the
+// question's cell may be filled.
+fn wanted(fills_question: bool, question: &[u16], place: usize) -> u64
+    requires { ⌜ place < length (now question) ⌝ }
+    ensures { λ r. ⌜ Decisive «fills_question» (now (question .entry)) place r ⌝ }
 {
-    if 0 < skip {
-        return 65536;
-    }
-    if question.len() <= place {
-        return 65536;
-    }
     let c = question[place];
     if c < 0x8000 {
         return c as u64;
@@ -220,25 +120,88 @@ fn wanted(fills_question: bool, question: &[u16], skip: usize, place: usize) -> 
     0x8000
 }
 
-// The link from which on the machine may go on. Siblings ascend, so where a rule's blank may not be filled nothing is to be
-// found behind the symbol wanted; else the blank is the last of them.
-fn seek(m: &[u64], fills_question: bool, fills_rule: bool, question: &[u16], p: Point) -> usize
-    requires { ⌜ Threaded (now m) (p .link) ⌝ }
-    ensures { λ r. ⌜ Skips «fills_question» «fills_rule» (now (m .entry)) (now (question .entry)) p (moved p r) ⌝ }
+// The last symbol to look at. Siblings ascend, so where a rule's blank may not be filled nothing is to be found behind the symbol
+// wanted; else the blank is the last of them.
+fn last_wanted(fills_rule: bool, cell: u64) -> u64
+    ensures { λ r. ⌜ LastWanted «fills_rule» cell r ⌝ }
 {
-    let link = p.link as usize;
-    let c = wanted(fills_question, question, p.skip as usize, p.place as usize);
-    if c == 65536 {
-        return link;
-    }
     if fills_rule {
-        return sibling(m, c, 65536, link);
+        return 65536;
     }
-    sibling(m, c, c, link)
+    cell
 }
 
-// Tries the point p, the last of `depth`: siblings at which the machine fails are skipped; without a node the point goes; else
-// one load, one step of the machine, and the mark of a rule that is listed.
+// A node that is passed, whatever its cell is: below it its arguments are to be skipped, and what is left of the subterms.
+fn pass_node(m: &[u64], link: usize, left: usize, place: usize) -> Ways
+    requires { ⌜ (length (now m) ≡ 12618) × (link ≤ 4608) ⌝ }
+    requires { ⌜ left ≤ 231 ⌝ }
+    ensures { λ r. ⌜ PassesNode (now (m .entry)) link left place r ⌝ }
+{
+    let w = m[72 + link];
+    let skip = left + term::arity(tree::cell_of(w) as u16);
+    Ways {
+        beside: tree::next_of(w) as usize,
+        down: tree::first_of(w) as usize,
+        skip,
+        place,
+    }
+}
+
+// Marks the numbers of the rules from the link on: all siblings are.
+fn mark_rules(m: &[u64], marks: &mut [u64], link: usize)
+    requires { ⌜ Numbered (now m) link ⌝ }
+    requires { ⌜ NumberSet (now marks) ⌝ }
+    ensures { λ _. ⌜ Marked (now (m .entry)) (now (marks .entry)) (now (marks .exit)) (siblings (now (m .entry)) link) ⌝ }
+{
+    let mut x = link;
+    while x != 0 {
+        let w = m[72 + x];
+        bits::numbers::put(marks, tree::cell_of(w) as usize);
+        x = tree::next_of(w) as usize;
+    }
+}
+
+// The machine's step at the first node from the point on at which it may go on, where one cell is wanted.
+fn meet_node(
+    m: &[u64],
+    fills_question: bool,
+    fills_rule: bool,
+    question: &[u16],
+    p: Point,
+    cell: u64,
+) -> Ways
+    requires { ⌜ Ready «fills_question» «fills_rule» (now m) (now question) p ⌝ }
+    requires { ⌜ (p .skip ≤ 0) × (p .place < length (now question)) ⌝ }
+    requires { ⌜ Decisive «fills_question» (now question) (p .place) cell ⌝ }
+    requires { ⌜ (p .link ≡ 0 → ⊥) × (cell ≡ 65536 → ⊥) ⌝ }
+    ensures { λ r. ⌜ Left «fills_question» «fills_rule» (now (m .entry)) (now (question .entry)) p [] r ⌝ }
+{
+    let x = sibling(m, cell, last_wanted(fills_rule, cell), p.link);
+    if x == 0 {
+        return nowhere();
+    }
+    let w = m[72 + x];
+    let c = tree::cell_of(w) as u16;
+    let s = machine::meet(fills_question, fills_rule, question, c, p.place);
+    let beside = tree::next_of(w) as usize;
+    if s.alive {
+        return Ways {
+            beside,
+            down: tree::first_of(w) as usize,
+            skip: s.skip,
+            place: s.place,
+        };
+    }
+    Ways {
+        beside,
+        down: 0,
+        skip: 0,
+        place: 0,
+    }
+}
+
+// Tries a point. Where there are subterms to skip any node does, and where the question's cell may be filled; at the question's
+// end all siblings are rules that answer; else one cell is wanted.
 fn try_point(
     m: &[u64],
     fills_question: bool,
@@ -246,94 +209,94 @@ fn try_point(
     question: &[u16],
     marks: &mut [u64],
     p: Point,
-    depth: usize,
-) -> Points
-    requires { ⌜ Stood «fills_question» «fills_rule» (now m) (now question) (now marks) p depth ⌝ }
-    ensures { λ r. ⌜ Became «fills_question» «fills_rule» (now (m .entry)) (now (question .entry)) (now (marks .entry)) (now (marks .exit)) p depth r ⌝ }
+) -> Ways
+    requires { ⌜ Ready «fills_question» «fills_rule» (now m) (now question) p ⌝ }
+    requires { ⌜ (p .link ≡ 0 → ⊥) ⌝ }
+    requires { ⌜ NumberSet (now marks) ⌝ }
+    ensures { λ r. ⌜ Tried «fills_question» «fills_rule» (now (m .entry)) (now (question .entry)) (now (marks .entry)) (now (marks .exit)) p r ⌝ }
 {
-    let x = seek(m, fills_question, fills_rule, question, p);
-    if x == 0 {
-        return Points {
-            beside: p,
-            below: p,
-            depth: depth - 1,
-        };
+    if 0 < p.skip {
+        return pass_node(m, p.link, p.skip - 1, p.place);
     }
-    let w = m[72 + x];
-    let skip = p.skip as usize;
-    let place = p.place as usize;
-    let t = decide(fills_question, fills_rule, question, w, skip, place);
-    if t.listed {
-        bits::numbers::put(marks, tree::cell_of(w) as usize);
-        return place_points(w, p, t, depth);
+    if question.len() <= p.place {
+        mark_rules(m, marks, p.link);
+        return nowhere();
     }
-    place_points(w, p, t, depth)
+    let cell = wanted(fills_question, question, p.place);
+    if cell == 65536 {
+        return pass_node(m, p.link, 0, p.place + 1);
+    }
+    meet_node(m, fills_question, fills_rule, question, p, cell)
 }
 
-// A turn of the search: the point p, the last of `depth`, is tried, and then each that takes its place, until one more stands or
-// one less. Till then the list need not be touched.
-pub fn turn(
+// A point in one number.
+fn pack(link: usize, skip: usize, place: usize) -> u32
+    requires { ⌜ (link ≤ 4608) × ((skip ≤ 231) × (place ≤ 32)) ⌝ }
+    ensures { λ r. ⌜ pointIn r ≡ record { link = link; skip = skip; place = place } ⌝ }
+{
+    (link * 65536 + skip * 256 + place) as u32
+}
+
+fn unpack(n: u32) -> Point
+    ensures { λ r. ⌜ r ≡ pointIn n ⌝ }
+{
+    let k = n as usize;
+    Point {
+        link: k / 65536,
+        skip: k / 256 % 256,
+        place: k % 256,
+    }
+}
+
+// Marks the numbers of the rules that answer, from the tree's first node on. The points that wait stand on a list, at the
+// length that is always enough.
+fn search(
     m: &[u64],
     fills_question: bool,
     fills_rule: bool,
     question: &[u16],
     marks: &mut [u64],
-    p: Point,
-    depth: usize,
-) -> Points
-    requires { ⌜ Steady «fills_question» «fills_rule» (now m) (now question) (now marks) p depth ⌝ }
-    ensures { λ r. ⌜ Went «fills_question» «fills_rule» (now (m .entry)) (now (question .entry)) (now (marks .entry)) (now (marks .exit)) p depth r ⌝ }
+    first: usize,
+)
+    requires { ⌜ Passing (now m) × (IsTerm (now question) × NumberSet (now marks)) ⌝ }
+    requires { ⌜ first ≡ firstOf (getD (now m) 72 0) ⌝ }
+    requires { ⌜ (first ≡ 0 → ⊥) ⌝ }
+    ensures { λ _. ⌜ Searched «fills_question» «fills_rule» (now (m .entry)) (now (question .entry)) (now (marks .entry)) (now (marks .exit)) ⌝ }
 {
-    let mut t = Points {
-        beside: p,
-        below: p,
-        depth,
-    };
-    while t.depth == depth {
-        let next = t.beside;
-        t = try_point(m, fills_question, fills_rule, question, marks, next, depth);
-    }
-    t
-}
-
-// The point that the search begins with.
-pub fn root(m: &[u64]) -> Point
-    requires { ⌜ Passing (now m) ⌝ }
-    ensures { λ r. ⌜ IsRoot (now (m .entry)) r ⌝ }
-{
-    let first = tree::first_of(m[72]) as u16;
-    Point {
+    let mut list: [u32; 33] = [0; 33];
+    let mut depth: usize = 0;
+    let mut p = Point {
         link: first,
         skip: 0,
         place: 0,
+    };
+    loop {
+        let t = try_point(m, fills_question, fills_rule, question, marks, p);
+        if t.down != 0 {
+            if t.beside != 0 {
+                list[depth] = pack(t.beside, p.skip, p.place);
+                depth += 1;
+            }
+            p = Point {
+                link: t.down,
+                skip: t.skip,
+                place: t.place,
+            };
+            continue;
+        }
+        if t.beside != 0 {
+            p.link = t.beside;
+            continue;
+        }
+        if depth == 0 {
+            return;
+        }
+        depth -= 1;
+        p = unpack(list[depth]);
     }
 }
 
-// Marks the numbers of the rules that answer. The points still to be tried stand on the list that is lent, the root first.
-pub fn search(
-    m: &[u64],
-    fills_question: bool,
-    fills_rule: bool,
-    question: &[u16],
-    marks: &mut [u64],
-    list: &mut [Point],
-)
-    requires { ⌜ Passing (now m) × (IsTerm (now question) × (NumberSet (now marks) × Rooted (now m) (now list))) ⌝ }
-    ensures { λ _. ⌜ Searched «fills_question» «fills_rule» (now (m .entry)) (now (question .entry)) (now (marks .entry)) (now (marks .exit)) ⌝ }
-{
-    let mut depth: usize = 1;
-    while 0 < depth {
-        let k = depth - 1;
-        let p = list[k];
-        let t = turn(m, fills_question, fills_rule, question, marks, p, depth);
-        list[k] = t.beside;
-        list[depth] = t.below;
-        depth = t.depth;
-    }
-}
-
-// The same with the list made here, at the length that is always enough. All its points but the first are zeros, which cost
-// less to write than copies of the root.
+// Marks the numbers of the rules that answer.
 pub fn mark_answers(
     m: &[u64],
     fills_question: bool,
@@ -346,15 +309,10 @@ pub fn mark_answers(
     requires { ⌜ NumberSet (now marks) ⌝ }
     ensures { λ _. ⌜ Searched «fills_question» «fills_rule» (now (m .entry)) (now (question .entry)) (now (marks .entry)) (now (marks .exit)) ⌝ }
 {
-    let first = root(m);
-    let none = Point {
-        link: 0,
-        skip: 0,
-        place: 0,
-    };
-    let mut list = [none; 35];
-    list[0] = first;
-    search(m, fills_question, fills_rule, question, marks, &mut list);
+    let first = tree::first_of(m[72]) as usize;
+    if first != 0 {
+        search(m, fills_question, fills_rule, question, marks, first);
+    }
 }
 
 // How many numbers are marked.

@@ -44,7 +44,7 @@ pub fn past(question: &[u16], count: usize, place: usize) -> usize
 }
 
 // The rule's cell c meets the question's cell at `place`.
-fn meet(fills_question: bool, fills_rule: bool, question: &[u16], c: u16, place: usize) -> Spot
+pub fn meet(fills_question: bool, fills_rule: bool, question: &[u16], c: u16, place: usize) -> Spot
     requires { ⌜ Within (now question) place ⌝ }
     ensures { λ r. ⌜ Stepped «fills_question» «fills_rule» (now (question .entry)) c 0 place (r .alive) (r .skip) (r .place) ⌝ }
 {

@@ -1,81 +1,97 @@
--- Each way out of a turn is one of the four that its promise names, at the point to which it has skipped.
+-- The cases are a node that is passed or fills the question's cell, rules that answer, and a cell that is wanted.
 use borrow.Author.Needs.{needs}
 use mathlib.Core.Path.{_≡_, refl, sym, _∙_, subst}
-use mathlib.Core.Logic.{inl, inr}
-use Prim.Native.Nat.{ℕ, _<_}
+use mathlib.Core.List.{[]}
+use Prim.Native.Nat.{ℕ, _+_, _^_, _≤_, _<_}
 use native.Mathlib.Omega.{arith}
-use lib.ListN.{length}
-use Rattle.bits.specs.Numbers.{Puts}
-use Rattle.questions.specs.declared.Point.{Point}
-use Rattle.questions.specs.Promises.{Skips, Tryable, moved, stays}
-use Rattle.questions.proofs.Trying.{placed-at, lists-it, goes-by}
+use lib.ListN.{length, getD}
+use Rattle.questions.specs.Promises.{siblings, Left}
+use Rattle.questions.proofs.Threads.{in-tree}
+use Rattle.questions.proofs.Leaving.{few-here, all-gone, passing, filling}
+use Rattle.questions.proofs.Marking.{marks-none, all-answer, numbered}
 use Rattle.questions.proofs.try_point.Statement.{statement}
 use Rattle.questions.proofs.try_point.Tie as tie
 
-module _ (k : tie.After-seek) where
-  abbrev to : Point
-  to = moved (k .before .before .before .before .args .p) (k .seek .result)
+module _ (k : tie.After-struct-known) where
+  abbrev start : tie.Start
+  start = k .before .before .before .before
 
-  skips : Skips (k .before .before .before .before .args .fills-question) (k .before .before .before .before .args .fills-rule) (k .before .before .before .before .args .m .now) (k .before .before .before .before .args .question .now) (k .before .before .before .before .args .p) to
-  skips = k .seek .ensures
+  words : (i : ℕ) → getD (start .args .m .now) i 0 < 2 ^ 64
+  words i = k .before .before .before .shared-slice-known .given i .fits
 
-  tryable : Tryable (k .before .before .before .before .args .fills-question) (k .before .before .before .before .args .fills-rule) (k .before .before .before .before .args .m .now) (k .before .before .before .before .args .question .now) to
-  tryable = k .before .before .before .before .pre .each to skips
+  node : (length (start .args .m .now) ≡ 12618) × (start .args .p .link ≤ 4608)
+  node = (start .pre .0 .threaded .passing .size, in-tree (start .args .m .now) (start .args .p .link) (start .pre .0 .threaded) (start .pre .1 .0))
 
-  size : length (k .before .before .before .before .args .m .now) ≡ 12618
-  size = k .before .before .before .before .pre .threaded .passing .size
+pass-node-requires : tie.Need-pass-node-requires
+pass-node-requires c κs =
+    let k = c .before .before in
+    let s = start k in
+    let h = few-here (s .args .fills-question) (s .args .fills-rule) (s .args .m .now) (s .args .question .now) (words k) (s .args .p) (s .pre .0) in
+    (node k, omega arith)
 
 returns : tie.Need-returns
-returns c = record { to = to (c .before); skips = skips (c .before); plain = _; tries = inl (record { none = c .if1 .taken; same = refl; less = refl }); closed = stays refl }
+returns c =
+    let t = c .before .before in
+    let k = t .before in
+    let s = start k in
+    record {
+      nodes = [];
+      marked = marks-none (s .args .m .now) (s .args .marks .now) (s .pre .1 .1);
+      left = passing (s .args .fills-question) (s .args .fills-rule) (s .args .m .now) (s .args .question .now) (words k) (s .args .p) (s .pre .0) (s .pre .1 .0) _ (t .if1 .taken) (c .pass-node .ensures);
+    }
 
-put-requires : tie.Need-put-requires
-put-requires c κs =
-    let k = c .before .before .before .before .before .before .before .before in
-    (k .before .before .before .before .pre .map, subst (λ (x : ℕ). x < 4096) (sym (c .cell-of .ensures)) (tryable k .number (c .before .before .before .before .before .before .before .if1 .left) (sym (c .before .before .before .decide .ensures .lists-is) ∙ c .before .before .if2 .taken)))
+mark-rules-requires : tie.Need-mark-rules-requires
+mark-rules-requires c κs =
+    let e = c .before .before .before in
+    let s = start (e .before) in
+    (numbered (s .args .fills-question) (s .args .fills-rule) (s .args .m .now) (s .args .question .now) (s .args .p) (e .if1 .left) (c .before .if2 .taken) (s .pre .0), s .pre .1 .1)
 
 returns-2 : tie.Need-returns-2
 returns-2 c =
-    let k = c .before .before .before .before .before .before .before .before .before .before .before .before in
-    let s = k .before .before .before .before .args in
-    let d = c .before .before .before .before .before .before .before in
+    let r = c .before .before .before in
+    let t = r .before .before in
+    let e = t .before .before in
+    let s = start (e .before) in
     record {
-      to = to k;
-      skips = skips k;
-      plain = c .place-points .ensures .plain;
-      closed = c .place-points .ensures .closed;
-      tries = inr (inl (lists-it (s .fills-question) (s .fills-rule) (s .m .now) (s .question .now) (s .marks .now) (to k) (s .depth) (c .before .before .before .before .before .before .before .before .before .before .before .if1 .left) _ _ _ _ (d .decide .ensures) _ (placed-at _ (s .p) (k .seek .result) _ _ _ _ _ (c .place-points .ensures .placed)) (c .before .before .before .before .before .before .if2 .taken) _
-          (subst (Puts (s .marks .now) (c .before .before .before .put .last .0)) (c .before .before .before .before .cell-of .ensures) (c .before .before .before .put .ensures))));
+      nodes = siblings (s .args .m .now) (s .args .p .link);
+      marked = r .mark-rules .ensures;
+      left =
+          subst (Left (s .args .fills-question) (s .args .fills-rule) (s .args .m .now) (s .args .question .now) (s .args .p) _) (sym (c .nowhere .ensures))
+          (all-gone (s .args .fills-question) (s .args .fills-rule) (s .args .m .now) (s .args .question .now) (words (e .before)) (s .args .p) (s .pre .0) (s .pre .1 .0) _ (all-answer (s .args .fills-question) (s .args .fills-rule) (s .args .m .now) (s .args .question .now) (s .args .p) (e .if1 .left) (t .if2 .taken)));
     }
 
 returns-3 : tie.Need-returns-3
 returns-3 c =
-    let k = c .before .before .before .before .before .before .before in
-    let s = k .before .before .before .before .args in
+    let t = c .before .before in
+    let n = t .before .before in
+    let e = n .before .before in
+    let s = start (e .before) in
+    let f = t .before .wanted .ensures .free (t .if3 .taken) in
     record {
-      to = to k;
-      skips = skips k;
-      plain = c .place-points2 .ensures .plain;
-      closed = c .place-points2 .ensures .closed;
-      tries = inr (inr (goes-by (s .fills-question) (s .fills-rule) (s .m .now) (s .question .now) (s .marks .now) (to k) (s .depth) (c .before .before .before .before .before .before .if1 .left) _ _ _ _ (c .before .before .decide .ensures) _ (placed-at _ (s .p) (k .seek .result) _ _ _ _ _ (c .place-points2 .ensures .placed)) (c .before .if2 .left)));
+      nodes = [];
+      marked = marks-none (s .args .m .now) (s .args .marks .now) (s .pre .1 .1);
+      left = filling (s .args .fills-question) (s .args .fills-rule) (s .args .m .now) (s .args .question .now) (words (e .before)) (s .args .p) (s .pre .0) (s .pre .1 .0) _ (e .if1 .left) (n .if2 .left) (f .0) (f .1) (c .pass-node2 .ensures);
     }
+
+returns-4 : tie.Need-returns-4
+returns-4 c =
+    let s = start (c .before .before .before .before .before .before) in
+    record { nodes = []; marked = marks-none (s .args .m .now) (s .args .marks .now) (s .pre .1 .1); left = c .meet-node .ensures }
 
 pub try-point-spec : {M : Type 1} → statement M
 try-point-spec =
     tie.close
     (tie.spec
-    (λ c κs. c .before .before .before .pre .threaded)
-    (λ c. let h = c .before .before .before .before .before .pre .some in omega arith)
+    (λ c. search needs)
+    pass-node-requires
     returns
-    (λ c. let h = tryable (c .before) .within in omega arith)
-    (λ c. let h = tryable (c .before) .within in omega arith)
-    (λ c. let h = tryable (c .before .before) .within in omega (arith, size (c .before .before)))
-    (λ c. search needs)
-    (λ c. search needs)
-    (λ c κs. let s = c .before .before .before .before .before .before .before .before in (s .pre .stands, s .pre .few))
+    mark-rules-requires
     (λ c κs. search needs)
-    put-requires
-    (λ c κs. let p = c .before .before .before .before .before .before .before .before .before .before .before .before .before .before .before .pre in (p .some, p .deep))
     (λ c. search needs)
     returns-2
-    (λ c κs. let p = c .before .before .before .before .before .before .before .before .before .before .pre in (p .some, p .deep))
-    returns-3)
+    (λ c κs. search needs)
+    (λ c. search needs)
+    (λ c κs. (node (c .before .before .before .before .before .before), omega arith))
+    returns-3
+    (λ c κs. search needs)
+    returns-4)
