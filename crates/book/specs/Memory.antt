@@ -24,7 +24,7 @@ pub record View : Type 0 where
   pub size : ℕ → ℕ
   pub cells : ℕ → List ℕ
 
--- The words: 4,681 of the tree, 2,305 of fingers, of which nothing is said, 1,024 of places, four to a word, and 512 records of 9: the length, and 32 cells, four to a word.
+-- The words: 4,681 of the tree, 2,305 of signs, of which nothing is said, 1,024 of places, four to a word, and 512 records of 9: the length, and 32 cells, four to a word.
 abbrev pub view : List ℕ → View
 view ws = record {
   tree = shape (take 4681 ws);

@@ -2,7 +2,7 @@
 //
 //   word 0 to 4,680       the tree: the node map (64 words), the rule map (8), the root and the nodes, and behind them
 //                         the rules, which hang below the last nodes of their forms (crate `tree`)
-//   word 4,681 to 6,985   fingers: hints for the search, four to a word (`tree::fingers`)
+//   word 4,681 to 6,985   signs: hints for the search, four to a word (`tree::signs`)
 //   word 6,986 to 8,009   places: for each rule number the place of its record, four to a word
 //   word 8,010 + 9 r      the record at the place r: the length of the term, and 8 words with its 32 cells
 //

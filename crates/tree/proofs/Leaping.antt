@@ -1,4 +1,4 @@
--- Where a finger leads is looked at before it is followed: what was read there is what is promised
+-- Where a sign leads is looked at before it is followed: what was read there is what is promised
 use mathlib.Core.Path.{_≡_, refl, sym, ap, _∙_}
 use mathlib.Core.List.{List}
 use mathlib.Core.Bool.{Bool, true}

@@ -96,20 +96,20 @@ pub fn put_field(words: &mut [u64], start: usize, index: usize, value: u16) {
     *word = *word & !(0xffff << shift) | u64::from(value) << shift;
 }
 
-/// The word of the first fingers.
-pub const FINGERS: usize = 4_681;
+/// The word of the first signs.
+pub const SIGNS: usize = 4_681;
 
-/// Fingers and last children that may be wrong, mostly links in use: hints may hold anything.
-pub fn any_fingers(random: &mut Random, words: &mut [u64]) {
+/// Signs and last children that may be wrong, mostly links in use: hints may hold anything.
+pub fn any_signs(random: &mut Random, words: &mut [u64]) {
     let used = memory::in_use(words);
-    for field in 0..4 * (6_986 - FINGERS) {
-        let finger = match random.below(8) {
+    for field in 0..4 * (6_986 - SIGNS) {
+        let sign = match random.below(8) {
             0 => random.cell(),
             1 => 0,
             _ if used.is_empty() => field as u16,
             _ => random.pick(&used),
         };
-        put_field(words, FINGERS, field, finger);
+        put_field(words, SIGNS, field, sign);
     }
 }
 
@@ -160,12 +160,12 @@ pub fn rewrite(random: &mut Random, words: &mut [u64]) {
         put_field(words, 6_986, usize::from(number), place);
     }
     let matter = words_that_matter(words);
-    for place in (73..FINGERS).chain(8_010..memory::WORDS) {
+    for place in (73..SIGNS).chain(8_010..memory::WORDS) {
         if !matter.contains(&place) {
             words[place] = random.bits();
         }
     }
-    any_fingers(random, words);
+    any_signs(random, words);
     put(words, 0, |root| {
         (root.cell, root.parent, root.next) = (random.cell(), random.cell(), random.cell());
     });

@@ -2,7 +2,7 @@
 
 use beside::book_calls::{self, RulesListed};
 use beside::lent::Lent;
-use beside::shapes::{any_fingers, few, rewrite, times};
+use beside::shapes::{any_signs, few, rewrite, times};
 use model::book::Book;
 use model::questions::Question;
 use model::random::{damaged, term_cells, Random};
@@ -252,9 +252,9 @@ fn sibling(random: &mut Random) -> Vec<u16> {
     vec![0x2000 | random.below(2) as u16, noun, last]
 }
 
-/// Fingers are hints: with those that adding and removing leave, and with any others, the answers are the same.
+/// Signs are hints: with those that adding and removing leave, and with any others, the answers are the same.
 #[test]
-fn fingers_make_no_difference() {
+fn signs_make_no_difference() {
     let mut random = Random::new(604);
     for _ in 0..times(6) {
         let mut pair = Pair::of(&[]);
@@ -267,7 +267,7 @@ fn fingers_make_no_difference() {
         }
         for turn in 0..40 {
             if turn % 4 == 3 {
-                pair.lent.call(|words| any_fingers(&mut random, words));
+                pair.lent.call(|words| any_signs(&mut random, words));
             }
             pair.all_four(&sibling(&mut random));
             pair.add(random.below(4_096) as u16, &sibling(&mut random));
