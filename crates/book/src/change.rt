@@ -23,7 +23,8 @@ pub fn add(m: &mut [u64], number: u16, term: &[u16]) -> Added
     }
     let n = term.len();
     let row = crate::record::row(term, n, number);
-    let last = tree::plant(&mut m[0..4681], &row[0..n]);
+    let down = tree::descend(&m[0..4681], &m[4681..6986], &row[0..n]);
+    let last = tree::plant(&mut m[0..4681], &row[0..n], down);
     if last == 0 {
         return Added::NoNodes;
     }

@@ -8,11 +8,11 @@ use native.Mathlib.Omega.{arith}
 use lib.ListN.{length, getD, take}
 use lib.Seq.{take-suc}
 use Rattle.tree.specs.Basics.{up-live}
-use Rattle.tree.specs.Shape.{Shape, Place, child, after, Used, Valid, to, owner, floor, Up, top, down, Tree}
+use Rattle.tree.specs.Shape.{Shape, Place, child, after, Used, Valid, to, owner, floor, Fits, Up, top, down, Tree}
 use Rattle.tree.specs.Order.{ahead}
 use Rattle.tree.specs.Change.{Sorted}
-use Rattle.tree.specs.Words.{cellOf, firstOf, nextOf, word, shape, place}
-use Rattle.tree.specs.Promises.{Sound, Found, Absent, Descended}
+use Rattle.tree.specs.Words.{cellOf, parentOf, firstOf, nextOf, word, shape, place}
+use Rattle.tree.specs.Promises.{Sound, Before, Found, Absent, Descended, Further}
 use Rattle.tree.specs.Needs.{Ready, Next}
 use Rattle.tree.specs.Limits.{used-low, live-low, place-low}
 
@@ -30,9 +30,37 @@ link-low : (ws : List ℕ) → length ws ≡ 4681 → Tree (shape ws) → (s : P
 link-low ws size t s v zero e = omega arith
 link-low ws size t s v (suc k) e = used-low ws size k (t .goes s v e .used)
 
-pub walk-start : (ws : List ℕ) (p c x : ℕ) → Ready ws p → x ≡ firstOf (word ws p) → Walk ws p 0 c x
-walk-start ws p c x r e =
-    record { valid = r .live; under = refl; above = omega arith; leads = sym e; low = link-low ws (r .size) (r .tree) (child p) (r .live) x (sym e) }
+pub walk-start : (ws : List ℕ) (p b c x : ℕ) → Ready ws p → Before (shape ws) p b c → to (shape ws) (place p b) ≡ x → Walk ws p b c x
+walk-start ws p b c x r f e = record { valid = f .valid; under = f .under; above = f .above; leads = e; low = link-low ws (r .size) (r .tree) (place p b) (f .valid) x e }
+
+-- ---- where to begin: before all children, at the first, or at one further on than that
+
+pub before-all : (ws : List ℕ) (p c : ℕ) → Ready ws p → Before (shape ws) p 0 c
+before-all ws p c r = record { valid = r .live; under = refl; above = omega arith }
+
+pub first-link : (ws : List ℕ) (p x : ℕ) → Ready ws p → x ≡ firstOf (word ws p) → x ≤ 4608
+first-link ws p x r e = link-low ws (r .size) (r .tree) (child p) (r .live) x (sym e)
+
+module _ (ws : List ℕ) (p c x v : ℕ) (r : Ready ws p) (n : ¬ (x ≡ 0)) (e : x ≡ firstOf (word ws p)) (ev : v ≡ cellOf (word ws x)) (l : v < c) where
+  pub from-known : (y : ℕ) → (y ≡ x) ⊎ Further (shape ws) (word ws x) (c - 1) y → Before (shape ws) p y c
+  from-known y h = go x refl h
+    where
+      go : (z : ℕ) → x ≡ z → (y ≡ x) ⊎ Further (shape ws) (word ws x) (c - 1) y → Before (shape ws) p y c
+      go zero q h = absurd (n q)
+      go (suc k) q h = by h
+        where
+          g : Fits (shape ws) (child p) k
+          g = r .tree .goes (child p) (r .live) (sym e ∙ q)
+
+          same : shape ws .cell k ≡ v
+          same = ap (λ (i : ℕ). cellOf (word ws i)) (sym q) ∙ sym ev
+
+          parents : shape ws .parent k ≡ parentOf (word ws x)
+          parents = ap (λ (i : ℕ). parentOf (word ws i)) (sym q)
+
+          by : (y ≡ x) ⊎ Further (shape ws) (word ws x) (c - 1) y → Before (shape ws) p y c
+          by (inl d) = subst (λ (i : ℕ). Before (shape ws) p i c) (sym (d ∙ q)) (record { valid = g .used; under = g .under; above = omega (arith, same, l) })
+          by (inr f) = subst (λ (i : ℕ). Before (shape ws) p i c) (sym (f .leads)) (record { valid = f .used; under = f .beside ∙ sym parents ∙ g .under; above = let h = f .near in omega (arith, l) })
 
 module _ (ws : List ℕ) (size : length ws ≡ 4681) (t : Tree (shape ws)) (p b c : ℕ) where
   pub walk-on : (x v y : ℕ) → ¬ (x ≡ 0) → Walk ws p b c x → v ≡ cellOf (word ws x) → v < c → y ≡ nextOf (word ws x) → Walk ws p x c y

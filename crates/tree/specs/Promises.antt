@@ -19,6 +19,12 @@ pub record Sound (ws : List ℕ) : Type 0 where
 abbrev pub Marked : List ℕ → ℕ → Type 0
 Marked map n = marked map n ≡ true
 
+-- the cell c has its place among the children of p, behind b or further on
+pub record Before (m : Shape) (p b c : ℕ) : Type 0 where
+  pub valid : Valid m (place p b)
+  pub under : owner m (place p b) ≡ p
+  pub above : floor m (place p b) ≤ c
+
 -- where a child of p with the cell c belongs: after the sibling b, or first where b is 0; such a child would come next
 pub record Found (m : Shape) (p b c : ℕ) : Type 0 where
   pub valid : Valid m (place p b)

@@ -21,7 +21,7 @@ ghost use Rattle.tree.specs.Tally.{tally};
 ghost use Rattle.tree.specs.Change.{Links, Grown, Trimmed};
 ghost use Rattle.tree.specs.Effects.{Puts};
 ghost use Rattle.tree.specs.Words.{cellOf, parentOf, firstOf, nextOf, Node, shape, place};
-ghost use Rattle.tree.specs.Promises.{Sound, Found, Descended, Planted, Hangable, Hung};
+ghost use Rattle.tree.specs.Promises.{Sound, Before, Found, Descended, Planted, Hangable, Hung};
 ghost use Rattle.tree.specs.Needs.{Ready, Room, Next, Growing, Leaf, Unlinked};
 
 // ---- the word of a link
@@ -109,13 +109,15 @@ fn put_link(m: &mut [u64], p: usize, b: usize, x: u64)
     }
 }
 
-// The child of p behind which the cell c has its place, or 0.
-fn find(m: &[u64], p: usize, c: u64) -> usize
+// The child of p behind which the cell c has its place, or 0. It is looked for from the child `from` on, whose cell is below c, or from
+// the first where that is 0.
+fn find(m: &[u64], p: usize, from: usize, c: u64) -> usize
     requires { ⌜ Ready (now m) p ⌝ }
+    requires { ⌜ Before (shape (now m)) p from c ⌝ }
     ensures { λ r. ⌜ Found (shape (now (m .entry))) p r c ⌝ }
 {
-    let mut b: usize = 0;
-    let mut x: usize = first_of(m[72 + p]) as usize;
+    let mut b = from;
+    let mut x = get_link(m, p, from);
     while x != 0 {
         let w = m[72 + x];
         if cell_of(w) >= c {
@@ -137,8 +139,9 @@ pub struct Down {
     pub behind: usize,
 }
 
-pub fn descend(m: &[u64], form: &[u16]) -> Down
+pub fn descend(m: &[u64], signs: &[u64], form: &[u16]) -> Down
     requires { ⌜ Sound (now m) ⌝ }
+    requires { ⌜ length (now signs) ≡ 2305 ⌝ }
     ensures { λ r. ⌜ Descended (shape (now (m .entry))) (now (form .entry)) (r .link) (r .depth) ⌝ }
     ensures next { λ r. ⌜ Next (shape (now (m .entry))) (now (form .entry)) (r .link) (r .depth) (r .behind) ⌝ }
 {
@@ -146,7 +149,7 @@ pub fn descend(m: &[u64], form: &[u16]) -> Down
     let mut i: usize = 0;
     while i < form.len() {
         let c = wide(form[i]);
-        let b = find(m, l, c);
+        let b = find(m, l, signs::before(m, signs, l, c), c);
         let x = get_link(m, l, b);
         if x == 0 {
             return Down {
@@ -222,15 +225,16 @@ fn has_nodes(m: &[u64], missing: usize) -> bool
     true
 }
 
-// The nodes of a form that are missing are linked in: the link of its last node, or 0 where there would be more than
-// 4,096 nodes.
-pub fn plant(m: &mut [u64], form: &[u16]) -> usize
+// The nodes of a form that are missing are linked in, from where `descend` ended: the link of its last node, or 0 where there would
+// be more than 4,096 nodes.
+pub fn plant(m: &mut [u64], form: &[u16], d: Down) -> usize
     requires { ⌜ Sound (now m) ⌝ }
     requires { ⌜ 0 < length (now form) ⌝ }
     requires { ⌜ length (now form) ≤ 32 ⌝ }
+    requires { ⌜ Descended (shape (now m)) (now form) (d .link) (d .depth) ⌝ }
+    requires { ⌜ Next (shape (now m)) (now form) (d .link) (d .depth) (d .behind) ⌝ }
     ensures { λ r. ⌜ Planted (now (m .entry)) (now (m .exit)) (now (form .entry)) r ⌝ }
 {
-    let d = descend(m, form);
     let at = d.link;
     let i = d.depth;
     let b = d.behind;
@@ -245,7 +249,7 @@ pub fn hang(m: &mut [u64], p: usize, r: usize, number: u64)
     requires { ⌜ Hangable (now m) p r number ⌝ }
     ensures { λ _. ⌜ Hung (shape (now (m .entry))) (shape (now (m .exit))) p r number ⌝ }
 {
-    let b = find(m, p, number);
+    let b = find(m, p, 0, number);
     link(m, p, b, 4096 + r, number);
 }
 
@@ -258,7 +262,7 @@ fn unlink(m: &mut [u64], n: usize)
 {
     let w = m[73 + n];
     let p = parent_of(w) as usize;
-    let b = find(m, p, cell_of(w));
+    let b = find(m, p, 0, cell_of(w));
     put_link(m, p, b, next_of(w));
     bits::clear(&mut m[0..72], n);
 }

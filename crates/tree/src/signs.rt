@@ -15,7 +15,8 @@ ghost use mathlib.Core.Bool.{true};
 ghost use Prim.Native.Nat.{_≤_, _<_};
 ghost use lib.ListN.{length};
 ghost use Rattle.tree.specs.Words.{shape};
-ghost use Rattle.tree.specs.Promises.{Further, Onward, Leap};
+ghost use Rattle.tree.specs.Promises.{Further, Onward, Leap, Before};
+ghost use Rattle.tree.specs.Needs.{Ready};
 
 // The field of the sign for a parent and a key. The factors spread keys that follow each other in any steps.
 fn sign(p: u64, key: u64) -> usize
@@ -94,6 +95,23 @@ pub fn known(m: &[u64], signs: &[u64], x: usize, w: u64, c: u64) -> usize
         i += 1;
     }
     x
+}
+
+// A child of p with a cell below c, close to it if a sign leads there, or 0: from there on the place of c is looked for.
+pub fn before(m: &[u64], signs: &[u64], p: usize, c: u64) -> usize
+    requires { ⌜ Ready (now m) p ⌝ }
+    requires { ⌜ length (now signs) ≡ 2305 ⌝ }
+    ensures { λ r. ⌜ Before (shape (now (m .entry))) p r c ⌝ }
+{
+    let x = crate::first_of(m[72 + p]) as usize;
+    if x == 0 {
+        return 0;
+    }
+    let w = m[72 + x];
+    if c <= crate::cell_of(w) {
+        return 0;
+    }
+    known(m, signs, x, w, c - 1)
 }
 
 // What the parent of the node with the word w knows as its last child.

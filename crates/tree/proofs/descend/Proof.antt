@@ -9,44 +9,50 @@ use Rattle.tree.proofs.descend.Statement.{statement}
 use Rattle.tree.proofs.descend.Tie as tie
 
 abbrev Inv-loop : tie.InvT-loop
-Inv-loop m form l₀ i₀ l i = Descending (shape m) form l i
+Inv-loop m signs form l₀ i₀ l i = Descending (shape m) form l i
 
 abbrev μ-loop : tie.MeasureT-loop
-μ-loop m form l₀ i₀ l i = length form - i
+μ-loop m signs form l₀ i₀ l i = length form - i
 
 loop-holds : tie.Need-loop-holds Inv-loop μ-loop
 loop-holds c =
-    let s = c .before .before in
+    let s = c .before .before .before in
     descend-start (shape (s .args .m .now)) (s .args .form .now)
+
+before-requires : tie.Need-before-requires Inv-loop μ-loop
+before-requires c κs =
+    let s = c .before .before .before .before .before .before .before in
+    let l = c .before .before .before .loop in
+    (descend-ready (s .args .m .now) (s .args .form .now) (s .pre .0) (l .l) (l .i) (l .inv), s .pre .1)
 
 find-requires : tie.Need-find-requires Inv-loop μ-loop
 find-requires c κs =
-    let s = c .before .before .before .before .before .before in
-    let l = c .before .before .before .loop in
-    descend-ready (s .args .m .now) (s .args .form .now) (s .pre) (l .l) (l .i) (l .inv)
+    let s = c .before .before .before .before .before .before .before .before in
+    let l = c .before .before .before .before .loop in
+    (descend-ready (s .args .m .now) (s .args .form .now) (s .pre .0) (l .l) (l .i) (l .inv), c .before2 .ensures)
 
 get-link-requires : tie.Need-get-link-requires Inv-loop μ-loop
 get-link-requires c κs =
-    let wide = c .before .wide in
-    let c₁ = c .before .before .before .before in
+    let wide = c .before .before .wide in
+    let c₁ = c .before .before .before .before .before in
     let l = c₁ .loop in
-    let s = c₁ .before .before .before in
-    let w = descend-low (s .args .m .now) (s .args .form .now) (s .pre) (l .l) (l .i) (l .inv) (c .before .before .before .loop-test .taken) (c .find .result)
+    let s = c₁ .before .before .before .before in
+    let w = descend-low (s .args .m .now) (s .args .form .now) (s .pre .0) (l .l) (l .i) (l .inv) (c .before .before .before .before .loop-test .taken) (c .find .result)
     (wide .result) 0 (wide .ensures) (c .find .ensures) in
-    (s .pre .size, (w .0, w .1))
+    (s .pre .0 .size, (w .0, w .1))
 
 returns : tie.Need-returns Inv-loop μ-loop
 returns c =
     let get-link = c .before .get-link in
     let find = c .before .before .find in
-    let c₁ = c .before .before .before in
+    let c₁ = c .before .before .before .before in
     let wide = c₁ .wide in
     let loop-test = c₁ .before .before .loop-test in
     let l = c₁ .before .before .before .loop in
-    let s = c₁ .before .before .before .before .before .before in (
-      descend-none (s .args .m .now) (s .args .form .now) (s .pre) (l .l) (l .i) (l .inv) (loop-test .taken) (find .result) (wide .result) (get-link .result)
+    let s = c₁ .before .before .before .before .before .before .before in (
+      descend-none (s .args .m .now) (s .args .form .now) (s .pre .0) (l .l) (l .i) (l .inv) (loop-test .taken) (find .result) (wide .result) (get-link .result)
           (wide .ensures) (find .ensures) (get-link .ensures) (c .if1 .taken),
-      descend-next (s .args .m .now) (s .args .form .now) (s .pre) (l .l) (l .i) (l .inv) (loop-test .taken) (find .result) (wide .result) (get-link .result)
+      descend-next (s .args .m .now) (s .args .form .now) (s .pre .0) (l .l) (l .i) (l .inv) (loop-test .taken) (find .result) (wide .result) (get-link .result)
           (wide .ensures) (find .ensures),
     )
 
@@ -54,26 +60,26 @@ add-cell-of : tie.Need-add-cell-of Inv-loop μ-loop
 add-cell-of c =
     let get-link = c .before .get-link in
     let find = c .before .before .find in
-    let c₁ = c .before .before .before in
+    let c₁ = c .before .before .before .before in
     let wide = c₁ .wide in
     let loop-test = c₁ .before .before .loop-test in
     let l = c₁ .before .before .before .loop in
-    let s = c₁ .before .before .before .before .before .before in
+    let s = c₁ .before .before .before .before .before .before .before in
     at-fits
-    (next-low (s .args .m .now) (s .args .form .now) (s .pre) (l .l) (l .i) (l .inv) (loop-test .taken) (find .result) (wide .result) (get-link .result)
+    (next-low (s .args .m .now) (s .args .form .now) (s .pre .0) (l .l) (l .i) (l .inv) (loop-test .taken) (find .result) (wide .result) (get-link .result)
     (wide .ensures) (find .ensures) (get-link .ensures))
 
 mul-cell-of : tie.Need-mul-cell-of Inv-loop μ-loop
 mul-cell-of c =
     let get-link = c .before .get-link in
     let find = c .before .before .find in
-    let c₁ = c .before .before .before in
+    let c₁ = c .before .before .before .before in
     let wide = c₁ .wide in
     let loop-test = c₁ .before .before .loop-test in
     let l = c₁ .before .before .before .loop in
-    let s = c₁ .before .before .before .before .before .before in
+    let s = c₁ .before .before .before .before .before .before .before in
     at-bytes
-    (next-low (s .args .m .now) (s .args .form .now) (s .pre) (l .l) (l .i) (l .inv) (loop-test .taken) (find .result) (wide .result) (get-link .result)
+    (next-low (s .args .m .now) (s .args .form .now) (s .pre .0) (l .l) (l .i) (l .inv) (loop-test .taken) (find .result) (wide .result) (get-link .result)
     (wide .ensures) (find .ensures) (get-link .ensures))
 
 shared-slice-read-cell-of : tie.Need-shared-slice-read-cell-of Inv-loop μ-loop
@@ -81,13 +87,13 @@ shared-slice-read-cell-of c =
     let get-link = c .before .before .get-link in
     let c₁ = c .before .before .before in
     let find = c₁ .find in
-    let wide = c₁ .before .wide in
-    let c₂ = c₁ .before .before .before in
+    let wide = c₁ .before .before .wide in
+    let c₂ = c₁ .before .before .before .before in
     let loop-test = c₂ .loop-test in
     let l = c₂ .before .loop in
-    let s = c₂ .before .before .before .before in
-    at-in (s .pre .size)
-    (next-low (s .args .m .now) (s .args .form .now) (s .pre) (l .l) (l .i) (l .inv) (loop-test .taken) (find .result) (wide .result) (get-link .result)
+    let s = c₂ .before .before .before .before .before in
+    at-in (s .pre .0 .size)
+    (next-low (s .args .m .now) (s .args .form .now) (s .pre .0) (l .l) (l .i) (l .inv) (loop-test .taken) (find .result) (wide .result) (get-link .result)
     (wide .ensures) (find .ensures) (get-link .ensures))
 
 returns-2 : tie.Need-returns-2 Inv-loop μ-loop
@@ -96,14 +102,14 @@ returns-2 c =
     let c₁ = c .before .before .before .before in
     let get-link = c₁ .get-link in
     let find = c₁ .before .find in
-    let wide = c₁ .before .before .wide in
-    let c₂ = c₁ .before .before .before .before in
+    let wide = c₁ .before .before .before .wide in
+    let c₂ = c₁ .before .before .before .before .before in
     let loop-test = c₂ .loop-test in
     let l = c₂ .before .loop in
-    let s = c₂ .before .before .before .before in (
-      descend-other (s .args .m .now) (s .args .form .now) (s .pre) (l .l) (l .i) (l .inv) (loop-test .taken) (find .result) (wide .result) (get-link .result)
+    let s = c₂ .before .before .before .before .before in (
+      descend-other (s .args .m .now) (s .args .form .now) (s .pre .0) (l .l) (l .i) (l .inv) (loop-test .taken) (find .result) (wide .result) (get-link .result)
           (wide .ensures) (find .ensures) (get-link .ensures) (cell-of .result) (cell-of .ensures) (c .if2 .taken),
-      descend-next (s .args .m .now) (s .args .form .now) (s .pre) (l .l) (l .i) (l .inv) (loop-test .taken) (find .result) (wide .result) (get-link .result)
+      descend-next (s .args .m .now) (s .args .form .now) (s .pre .0) (l .l) (l .i) (l .inv) (loop-test .taken) (find .result) (wide .result) (get-link .result)
           (wide .ensures) (find .ensures),
     )
 
@@ -113,22 +119,22 @@ loop-again c =
     let c₁ = c .before .before .before .before in
     let get-link = c₁ .get-link in
     let find = c₁ .before .find in
-    let wide = c₁ .before .before .wide in
-    let c₂ = c₁ .before .before .before .before in
+    let wide = c₁ .before .before .before .wide in
+    let c₂ = c₁ .before .before .before .before .before in
     let loop-test = c₂ .loop-test in
     let l = c₂ .before .loop in
-    let s = c₂ .before .before .before .before in
-    descend-on (s .args .m .now) (s .args .form .now) (s .pre) (l .l) (l .i) (l .inv) (loop-test .taken) (find .result) (wide .result) (get-link .result)
+    let s = c₂ .before .before .before .before .before in
+    descend-on (s .args .m .now) (s .args .form .now) (s .pre .0) (l .l) (l .i) (l .inv) (loop-test .taken) (find .result) (wide .result) (get-link .result)
     (wide .ensures) (find .ensures) (get-link .ensures) (cell-of .result) (c .before .before .before .if1 .left) (cell-of .ensures) (c .if2 .left)
 
 returns-3 : tie.Need-returns-3 Inv-loop μ-loop
 returns-3 c =
     let l = c .before .loop in
-    let s = c .before .before .before .before in
+    let s = c .before .before .before .before .before in
     (descend-all (c .loop-test .left) (l .inv), next-none (shape (s .args .m .now)) (s .args .form .now) (l .l) (l .i) 0 (c .loop-test .left))
 
 pub descend-spec : {M : Type 1} → statement M
 descend-spec =
     tie.close
-    (tie.spec Inv-loop μ-loop loop-holds (λ c. search needs) (λ c. search needs) (λ c κs. search needs) find-requires get-link-requires returns
+    (tie.spec Inv-loop μ-loop loop-holds (λ c. search needs) (λ c. search needs) (λ c κs. search needs) before-requires find-requires get-link-requires returns
     add-cell-of mul-cell-of shared-slice-read-cell-of (λ c κs. search needs) returns-2 (λ c. search needs) (λ c. search needs) loop-again returns-3)

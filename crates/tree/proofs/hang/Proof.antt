@@ -1,10 +1,17 @@
 -- The place that `find` finds for the number is sorted, since no rule there has it; so the rule is linked in
 use native.Mathlib.Omega.{arith}
 use borrow.Author.Needs.{needs}
+use Rattle.tree.specs.Needs.{Ready}
 use Rattle.tree.specs.Limits.{live-low, place-low}
-use Rattle.tree.proofs.Walking.{found-sorted}
+use Rattle.tree.proofs.Walking.{before-all, found-sorted}
 use Rattle.tree.proofs.hang.Statement.{statement}
 use Rattle.tree.proofs.hang.Tie as tie
+
+find-requires : tie.Need-find-requires
+find-requires c κs =
+    let s = c .before .before in
+    let r : Ready (s .args .m .now) (s .args .p) = record { size = s .pre .sound .size; tree = s .pre .sound .tree; live = s .pre .live } in
+    (r, before-all (s .args .m .now) (s .args .p) (s .args .number) r)
 
 link-requires : tie.Need-link-requires
 link-requires c κs =
@@ -29,4 +36,4 @@ returns c =
     record { at = _; below = f .under; sorted = found-sorted (s .pre .sound .tree) f (s .pre .absent); links = c .before .before .link .ensures }
 
 pub hang-spec : {M : Type 1} → statement M
-hang-spec = tie.close (tie.spec (λ c κs. search needs) (λ c. search needs) link-requires (λ c. search needs) returns)
+hang-spec = tie.close (tie.spec find-requires (λ c. search needs) link-requires (λ c. search needs) returns)

@@ -2,6 +2,7 @@
 use mathlib.Core.Path.{_≡_}
 use lib.ListN.{length, take}
 use Rattle.tree.proofs.Trimming.{leaf-ready, leaf-low, leaf-unlinked}
+use Rattle.tree.proofs.Walking.{before-all}
 use borrow.Author.Needs.{needs}
 use Rattle.tree.proofs.unlink.Statement.{statement}
 use Rattle.tree.proofs.unlink.Tie as tie
@@ -10,7 +11,8 @@ find-requires : tie.Need-find-requires
 find-requires c κs =
     let s = c .before .before .before .before .before in
     let parent-of = c .before .before .parent-of in
-    leaf-ready (s .args .m .now) (s .args .n) (parent-of .result) (s .pre) (parent-of .ensures)
+    let r = leaf-ready (s .args .m .now) (s .args .n) (parent-of .result) (s .pre) (parent-of .ensures) in
+    (r, before-all (s .args .m .now) (parent-of .result) (c .cell-of .result) r)
 
 put-link-requires : tie.Need-put-link-requires
 put-link-requires c κs =

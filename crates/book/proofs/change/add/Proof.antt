@@ -4,7 +4,7 @@ use mathlib.Core.List.{List, _++_}
 use Prim.Native.Nat.{ℕ, _+_, _-_, _≤_}
 use native.Mathlib.Omega.{arith}
 use borrow.Author.Needs.{needs}
-use lib.ListN.{length, take, drop, length-map}
+use lib.ListN.{length, take, drop, length-map, length-take, length-drop}
 use Rattle.tree.specs.Words.{shape}
 use Rattle.tree.specs.Promises.{Hangable, Hung}
 use Rattle.book.specs.Rules.{nothing, Taken}
@@ -22,8 +22,11 @@ use Rattle.book.proofs.change.add.Tie as tie
 abbrev start : tie.After-lowest-free → tie.Start
 start f = f .before .before .before .before .before .before .before .before
 
+abbrev rows : tie.After-plant → tie.After-row
+rows p = p .before .before .before .before .before .before .before .before .before .before
+
 abbrev free-at : tie.After-plant → tie.After-lowest-free
-free-at p = p .before .before .before .before .before .before
+free-at p = rows p .before .before
 
 -- the number is new
 new : (f : tie.After-lowest-free) → rulesIn (start f .args .m .now) (start f .args .number) ≡ nothing
@@ -59,24 +62,37 @@ short f e =
 row-requires : tie.Need-row-requires
 row-requires c κs = (omega arith, short (c .before) (c .if2 .left) .1)
 
+part-descend-end-3 : tie.Need-part-descend-end-3
+part-descend-end-3 c = let e = c .before .before .before .before .before in omega (arith, short (e .before) (e .if2 .left) .1)
+
+descend-requires : tie.Need-descend-requires
+descend-requires c κs =
+    let r = c .before .before .before .before .before in
+    let f = r .before .before in
+    let s = start f in (
+      sound (s .args .m .now) (s .args .number) (s .args .term .now) (s .pre .0) (new f) (f .lowest-free .result) (f .lowest-free .ensures) (r .before .if2 .left) (s .pre .1 .1) (s .pre .1 .0),
+      omega (arith, length-take 2305 (drop 4681 (s .args .m .now)), length-drop 4681 (s .args .m .now), s .pre .0 .size),
+    )
+
 part-plant-end-2 : tie.Need-part-plant-end-2
-part-plant-end-2 c = let e = c .before .before .before in omega (arith, short (e .before) (e .if2 .left) .1)
+part-plant-end-2 c = let e = c .before .before .before .before .before .before .before .before .before in omega (arith, short (e .before) (e .if2 .left) .1)
 
 plant-requires : tie.Need-plant-requires
 plant-requires c κs =
-    let r = c .before .before .before in
+    let r = c .before .before .before .before .before .before .before .before .before in
+    let d = c .before .before .before .descend .ensures in
     let f = r .before .before in
     let s = start f in
     let h = short f (r .before .if2 .left) in
     let l = form-long r in (
       sound (s .args .m .now) (s .args .number) (s .args .term .now) (s .pre .0) (new f) (f .lowest-free .result) (f .lowest-free .ensures) (r .before .if2 .left) (s .pre .1 .1) (s .pre .1 .0),
-      (omega (arith, l, h .0), omega (arith, l, h .1)),
+      (omega (arith, l, h .0), (omega (arith, l, h .1), (d .0, d .1))),
     )
 
 returns-3 : tie.Need-returns-3
 returns-3 c =
     let p = c .before .before .before in
-    let r = p .before .before .before .before in
+    let r = rows p in
     let f = r .before .before in
     let s = start f in
     no-nodes (s .args .m .now) (s .args .number) (s .args .term .now) (s .pre .0) (new f) (f .lowest-free .result) (f .lowest-free .ensures) (r .before .if2 .left) (s .pre .1 .1) (s .pre .1 .0)
@@ -89,7 +105,7 @@ hang-requires : tie.Need-hang-requires
 hang-requires c κs =
     let e = c .before .before in
     let p = e .before .before .before in
-    let r = p .before .before .before .before in
+    let r = rows p in
     let f = r .before .before in
     let s = start f in
     let h = hangable (s .args .m .now) (s .args .number) (s .args .term .now) (s .pre .0) (new f) (f .lowest-free .result) (f .lowest-free .ensures) (r .before .if2 .left) (s .pre .1 .1) (s .pre .1 .0)
@@ -132,7 +148,7 @@ put-record-requires c κs =
     let p = h .before .before .before .before .before .before in
     let f = free-at p in
     let s = start f in
-    let e = p .before .before .before .before .before .if2 .left in (
+    let e = rows p .before .if2 .left in (
       two h .long ∙ size₁ h,
       place-low (s .args .m .now) (s .args .number) (s .args .term .now) (s .pre .0) (new f) (f .lowest-free .result) (f .lowest-free .ensures) e,
       s .pre .1 .0,
@@ -154,7 +170,7 @@ module _ (q : tie.After-put-record) where
   takes =
       let h = hangs in
       let p = plants in
-      let r = p .before .before .before .before in
+      let r = rows p in
       let f = r .before .before in
       let s = start f in
       taken-now (s .args .m .now) (s .args .number) (s .args .term .now) (s .pre .0) (new f) (f .lowest-free .result) (f .lowest-free .ensures) (r .before .if2 .left) (s .pre .1 .1) (s .pre .1 .0)
@@ -167,7 +183,13 @@ put-signs-requires c κs =
     let p = plants q in
     let f = free-at p in
     let s = start f in
-    (long q, place-low (s .args .m .now) (s .args .number) (s .args .term .now) (s .pre .0) (new f) (f .lowest-free .result) (f .lowest-free .ensures) (p .before .before .before .before .before .if2 .left))
+    (long q, place-low (s .args .m .now) (s .args .number) (s .args .term .now) (s .pre .0) (new f) (f .lowest-free .result) (f .lowest-free .ensures) (rows p .before .if2 .left))
+
+same-length-4 : tie.Need-same-length-4
+same-length-4 c =
+    let g = c .before .before in
+    let q = g .before .before .before .before in
+    g .put-signs .kept .0 ∙ long q ∙ sym (start (free-at (plants q)) .pre .0 .size)
 
 returns-4 : tie.Need-returns-4
 returns-4 c =
@@ -194,6 +216,16 @@ add-spec =
     (λ c. search needs)
     (λ c. search needs)
     (λ c. search needs)
+    (λ c. search needs)
+    (λ c. search needs)
+    (λ c. search needs)
+    part-descend-end-3
+    descend-requires
+    (λ c. search needs)
+    (λ c. search needs)
+    (λ c. search needs)
+    (λ c. search needs)
+    (λ c. search needs)
     part-plant-end-2
     plant-requires
     (λ c. search needs)
@@ -205,5 +237,5 @@ add-spec =
     hang-requires
     put-record-requires
     put-signs-requires
-    (λ c. search needs)
+    same-length-4
     returns-4)

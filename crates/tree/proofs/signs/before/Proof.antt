@@ -1,0 +1,41 @@
+-- Before all children, at the first, or at one further on that is below the cell
+use native.Mathlib.Omega.{arith}
+use Rattle.tree.specs.Limits.{live-low}
+use Rattle.tree.proofs.Stores.{at-fits, at-bytes, at-in}
+use Rattle.tree.proofs.Walking.{before-all, first-link, from-known}
+use borrow.Author.Needs.{needs}
+use Rattle.tree.proofs.signs.before.Statement.{statement}
+use Rattle.tree.proofs.signs.before.Tie as tie
+
+returns : tie.Need-returns
+returns c = let s = c .before .before .before .before .before in before-all (s .args .m .now) (s .args .p) (s .args .c) (s .pre .0)
+
+returns-2 : tie.Need-returns-2
+returns-2 c = let s = c .before .before .before .before .before .before .before .before in before-all (s .args .m .now) (s .args .p) (s .args .c) (s .pre .0)
+
+returns-3 : tie.Need-returns-3
+returns-3 c =
+    let t = c .before in
+    let v = t .before .cell-of in
+    let e = t .before .before .before in
+    let f = e .before .first-of in
+    let s = e .before .before .before .before .before in
+    from-known (s .args .m .now) (s .args .p) (s .args .c) (f .result) (v .result) (s .pre .0) (e .if1 .left) (f .ensures) (v .ensures) (t .if2 .left) (c .known .result) (c .known .ensures)
+
+pub before-spec : {M : Type 1} → statement M
+before-spec =
+    tie.close
+    (tie.spec
+    (λ c. let s = c .before .before in at-fits (live-low (s .args .m .now) (s .pre .0 .size) (s .args .p) (s .pre .0 .live)))
+    (λ c. let s = c .before .before in at-bytes (live-low (s .args .m .now) (s .pre .0 .size) (s .args .p) (s .pre .0 .live)))
+    (λ c. let s = c .before .before .before in at-in (s .pre .0 .size) (live-low (s .args .m .now) (s .pre .0 .size) (s .args .p) (s .pre .0 .live)))
+    (λ c κs. search needs)
+    returns
+    (λ c. let f = c .before .first-of in let s = c .before .before .before .before .before in at-fits (first-link (s .args .m .now) (s .args .p) (f .result) (s .pre .0) (f .ensures)))
+    (λ c. let f = c .before .first-of in let s = c .before .before .before .before .before in at-bytes (first-link (s .args .m .now) (s .args .p) (f .result) (s .pre .0) (f .ensures)))
+    (λ c. let f = c .before .before .first-of in let s = c .before .before .before .before .before .before in at-in (s .pre .0 .size) (first-link (s .args .m .now) (s .args .p) (f .result) (s .pre .0) (f .ensures)))
+    (λ c κs. search needs)
+    returns-2
+    (λ c. let l = c .if2 .left in omega arith)
+    (λ c κs. search needs)
+    returns-3)
