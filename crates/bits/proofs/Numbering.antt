@@ -1,18 +1,20 @@
 -- A number is in the set by two bits, its own and the head's; a store to a word clears its bits, and a mark sets one.
-use mathlib.Core.Path.{_≡_, sym, ap, ap₂, _∙_}
+use mathlib.Core.Path.{_≡_, refl, sym, ap, ap₂, _∙_, subst}
 use mathlib.Core.List.{List}
 use mathlib.Core.Bool.{Bool, true, false, _&&_, and-false}
 use Prim.Native.Nat.{ℕ, _+_, _-_, _*_, _/_, _%_, _^_, _≤_, _<_}
+use native.Mathlib.Nat.{mul-mod-left}
 use native.Mathlib.Omega.{arith}
 use native.Mathlib.Decide.{decLt, ℕ-discrete}
 use borrow.Author.Tests.{eq-eqb, ne-eqb}
+use lib.Count.{leadingZeros}
 use lib.Dec.{eqb}
 use lib.ListN.{length, getD, set, length-set}
 use lib.Seq.{getD-set-same, getD-set-other}
 use Rattle.bits.specs.Packed.{parts, bits, First}
 use Rattle.bits.specs.Laws.{length-parts, length-bits, get-bit, at-word}
-use Rattle.bits.specs.Numbers.{counts, has, NumberSet, Emptied, Puts, NextNumber, none-above}
-use Rattle.bits.proofs.Searching.{zero-bit}
+use Rattle.bits.specs.Numbers.{counts, has, Member, NumberSet, Emptied, Puts, NextNumber, restOf, Spotted, none-above}
+use Rattle.bits.proofs.Searching.{none-left, left-low, one-left, shift-twice, zero-bit}
 
 apart : (b : Bool) → b ≡ true → b ≡ false → ⊥
 apart true e f = mathlib.Core.Bool.true≢false f
@@ -180,3 +182,82 @@ module _ (ws : List ℕ) (s : NumberSet ws) (from q r : ℕ) (at : from / 64 ≡
         go : (k : ℕ) → from ≤ k → k < i * 64 + t → Dec (k < i * 64) → has ws k ≡ false
         go k a b (yes d) = passed k a d
         go k a b (no d) = m .before k (omega arith) b
+
+-- ---- the rest of a word behind a number
+
+left-true : (a b : Bool) → a && b ≡ true → a ≡ true
+left-true true b e = refl
+left-true false b e = e
+
+module _ (ws : List ℕ) (s : NumberSet ws) (n rest : ℕ) (h : n < 4096) (m : Member ws n) (e : rest ≡ restOf ws n) where
+  on : counts ws (n / 64) ≡ true
+  on = left-true (counts ws (n / 64)) (eqb (getD (bits ws) n 0) 1) m
+
+  behind : (rest * 2 ^ 1) % 2 ^ 64 ≡ (getD ws (n / 64) 0 * 2 ^ (n % 64 + 1)) % 2 ^ 64
+  behind = ap (λ (x : ℕ). (x * 2 ^ 1) % 2 ^ 64) e ∙ shift-twice (getD ws (n / 64) 0) (n % 64) 1
+
+  -- nothing is left in the word
+  word-done : (rest * 2 ^ 1) % 2 ^ 64 ≡ 0 → (k : ℕ) → n + 1 ≤ k → k < n / 64 * 64 + 64 → has ws k ≡ false
+  word-done z k a b =
+      of-word ws (n / 64) (n % 64 + 1) (omega arith) (omega arith) on 64 (none-left (getD ws (n / 64) 0) (n % 64 + 1) (omega arith) (sym behind ∙ z)) .before k (omega arith) b
+
+  pub word-goes : (at r : ℕ) → (rest * 2 ^ 1) % 2 ^ 64 ≡ 0 → Spotted ws (n / 64 * 64 + 64) at r → Spotted ws (n + 1) at r
+  word-goes at r z f = record {
+    first = record {
+      after = let q = f .first .after in omega arith;
+      within = f .first .within;
+      before = λ k a b. early k a b (decLt k (n / 64 * 64 + 64));
+      here = f .first .here;
+    };
+    left = f .left;
+  }
+    where
+      early : (k : ℕ) → n + 1 ≤ k → k < at → Dec (k < n / 64 * 64 + 64) → has ws k ≡ false
+      early k a b (yes l) = word-done z k a l
+      early k a b (no l) = f .first .before k (omega arith) b
+
+  -- there is one more
+  module _ (nz : ¬ ((rest * 2 ^ 1) % 2 ^ 64 ≡ 0)) where
+    inner : n % 64 + 1 < 64
+    inner = go (decLt (n % 64 + 1) 64)
+      where
+        go : Dec (n % 64 + 1 < 64) → n % 64 + 1 < 64
+        go (yes l) = l
+        go (no l) =
+            let q : n % 64 + 1 ≡ 64 = omega arith in
+            absurd (nz (behind ∙ ap (λ (x : ℕ). (getD ws (n / 64) 0 * 2 ^ x) % 2 ^ 64) q ∙ mul-mod-left (getD ws (n / 64) 0) (2 ^ 64)))
+
+    more : ¬ ((getD ws (n / 64) 0 * 2 ^ (n % 64 + 1)) % 2 ^ 64 ≡ 0)
+    more z = nz (behind ∙ z)
+
+    pub in-it : n % 64 + 1 + leadingZeros 64 ((rest * 2 ^ 1) % 2 ^ 64) < 64
+    in-it = subst (λ (x : ℕ). n % 64 + 1 + leadingZeros 64 x < 64) (sym behind) (left-low (getD ws (n / 64) 0) (n % 64 + 1) inner more)
+
+    pub word-more : (z : ℕ) → z ≡ leadingZeros 64 ((rest * 2 ^ 1) % 2 ^ 64) → Spotted ws (n + 1) (n + 1 + z) (((rest * 2 ^ 1) % 2 ^ 64 * 2 ^ z) % 2 ^ 64)
+    word-more z ez = record {
+      first = subst (λ (x : ℕ). NextNumber ws (n + 1) 4096 x) there (in-this ws s (n + 1) (n / 64) r (let q = inner in omega arith) (let q = inner in omega arith) this low);
+      left = λ b. ap (λ (x : ℕ). (x * 2 ^ z) % 2 ^ 64) behind ∙ shift-twice (getD ws (n / 64) 0) (n % 64 + 1) z ∙ ap₂ (λ (q t : ℕ). (getD ws q 0 * 2 ^ t) % 2 ^ 64) same-word same-bit;
+    }
+      where
+        -- the bit of the word
+        r : ℕ
+        r = n % 64 + 1 + leadingZeros 64 ((getD ws (n / 64) 0 * 2 ^ (n % 64 + 1)) % 2 ^ 64)
+
+        low : r < 64
+        low = left-low (getD ws (n / 64) 0) (n % 64 + 1) inner more
+
+        is : n % 64 + 1 + z ≡ r
+        is = ap (λ (x : ℕ). n % 64 + 1 + x) (ez ∙ ap (leadingZeros 64) behind)
+
+        this : NextNumber ws (n + 1) (n / 64 * 64 + 64) (n / 64 * 64 + r)
+        this = let q : n / 64 * 64 + (n % 64 + 1) ≡ n + 1 = omega arith in
+            subst (λ (x : ℕ). NextNumber ws x (n / 64 * 64 + 64) (n / 64 * 64 + r)) q (of-word ws (n / 64) (n % 64 + 1) (omega arith) inner on r (one-left (getD ws (n / 64) 0) (n % 64 + 1) inner more))
+
+        there : n / 64 * 64 + r ≡ n + 1 + z
+        there = let q = is in omega arith
+
+        same-word : n / 64 ≡ (n + 1 + z) / 64
+        same-word = let q = is in let l = low in omega arith
+
+        same-bit : n % 64 + 1 + z ≡ (n + 1 + z) % 64
+        same-bit = let q = is in let l = low in omega arith

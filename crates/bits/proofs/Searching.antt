@@ -2,11 +2,11 @@
 use mathlib.Core.Path.{_≡_, sym, ap, ap₂, _∙_, subst}
 use mathlib.Core.List.{List}
 use Prim.Native.Nat.{ℕ, suc, _+_, _-_, _*_, _/_, _%_, _^_, _≤_, _<_}
-use native.Mathlib.Nat.{mod-lt, mul-one, mul-mod-left, zero-mul, zero-div, div-eq-of-lt, div-eq-of-lt-le, lt-of-lt-of-le}
+use native.Mathlib.Nat.{mod-lt, mul-one, mul-assoc, mul-mod-left, add-mul-mod-self-right, zero-mul, zero-div, div-eq-of-lt, div-eq-of-lt-le, lt-of-lt-of-le}
 use native.Mathlib.Decide.{decLt}
 use native.Mathlib.Omega.{arith}
 use lib.ListN.{length, getD}
-use lib.Pow.{pow-pos, pow-mono, split, field, mod-mod-pow, high, shr-lt, shr-shr, shl-shr, ones-split, ones-sub-lt, le-ones}
+use lib.Pow.{pow-pos, pow-add, pow-mono, split, field, mod-mod-pow, high, shr-lt, shr-shr, shl-shr, ones-split, ones-sub-lt, le-ones}
 use lib.Count.{leadingZeros, leading-top}
 use Rattle.bits.specs.Packed.{parts, bits, Skipped, First}
 use Rattle.bits.specs.Laws.{length-parts, get-parts, parts-zero, at-word, length-bits, get-bit}
@@ -52,7 +52,7 @@ module _ (w s : ℕ) (l : s < 64) where
           omega (arith, parts-zero 1 64 (k - s), q)
 
   -- the first set bit stands in the word: else the word would lie below its clear low bits
-  left-low : ¬ ((w * 2 ^ s) % 2 ^ 64 ≡ 0) → s + leadingZeros 64 ((w * 2 ^ s) % 2 ^ 64) < 64
+  pub left-low : ¬ ((w * 2 ^ s) % 2 ^ 64 ≡ 0) → s + leadingZeros 64 ((w * 2 ^ s) % 2 ^ 64) < 64
   left-low nz = go (decLt (s + leadingZeros 64 ((w * 2 ^ s) % 2 ^ 64)) 64)
     where
       top : (j : ℕ) × (leadingZeros 64 ((w * 2 ^ s) % 2 ^ 64) + suc j ≡ 64) × (2 ^ j ≤ (w * 2 ^ s) % 2 ^ 64) × ((w * 2 ^ s) % 2 ^ 64 < 2 ^ suc j)
@@ -100,6 +100,20 @@ module _ (w s : ℕ) (l : s < 64) where
           let y : (w * 2 ^ s) % 2 ^ 64 / 2 ^ (63 - i) ≡ 0 = div-eq-of-lt (lt-of-lt-of-le (top .3) (pow-mono (omega (arith, top .1)))) in
           let q = sym (bit x i (63 - i) (omega (arith, in-word))) ∙ shifted i (omega (arith, in-word)) ∙ ap (λ (c : ℕ). getD (parts 1 64 w) c 0) d in
           omega (arith, ap (λ (c : ℕ). c % 2) y, q)
+
+-- ---- `w << s << t`
+
+spread : (q c r t : ℕ) → (q * c + r) * t ≡ r * t + (q * t) * c
+spread q c r t = omega arith
+
+shift-on : (a t : ℕ) → (a % 2 ^ 64 * 2 ^ t) % 2 ^ 64 ≡ (a * 2 ^ t) % 2 ^ 64
+shift-on a t =
+    sym (ap (λ (x : ℕ). (x * 2 ^ t) % 2 ^ 64) (sym (split a 64)) ∙ ap (λ (x : ℕ). x % 2 ^ 64) (spread (a / 2 ^ 64) (2 ^ 64) (a % 2 ^ 64) (2 ^ t))
+    ∙ add-mul-mod-self-right (a % 2 ^ 64 * 2 ^ t) (a / 2 ^ 64 * 2 ^ t) (2 ^ 64))
+
+-- two shifts are one
+pub shift-twice : (w s t : ℕ) → ((w * 2 ^ s) % 2 ^ 64 * 2 ^ t) % 2 ^ 64 ≡ (w * 2 ^ (s + t)) % 2 ^ 64
+shift-twice w s t = shift-on (w * 2 ^ s) t ∙ ap (λ (x : ℕ). x % 2 ^ 64) (mul-assoc w (2 ^ s) (2 ^ t) ∙ ap (λ (x : ℕ). w * x) (sym (pow-add 2 s t)))
 
 -- ---- `!w`
 

@@ -2,7 +2,7 @@
 use mathlib.Core.Path.{_≡_, ap}
 use mathlib.Core.List.{List}
 use mathlib.Core.Bool.{Bool, true, false, _&&_}
-use Prim.Native.Nat.{ℕ, _+_, _/_, _≤_, _<_}
+use Prim.Native.Nat.{ℕ, _+_, _*_, _/_, _%_, _^_, _≤_, _<_}
 use native.Mathlib.Omega.{arith}
 use lib.Dec.{eqb}
 use lib.ListN.{length, getD, List·getD-eq-default}
@@ -42,6 +42,15 @@ pub record NextNumber (ws : List ℕ) (from to r : ℕ) : Type 0 where
   pub within : r ≤ to
   pub before : (k : ℕ) → from ≤ k → k < r → has ws k ≡ false
   pub here : r < to → Member ws r
+
+-- the word of n, shifted so that the bit of n comes first
+abbrev pub restOf : List ℕ → ℕ → ℕ
+restOf ws n = (getD ws (n / 64) 0 * 2 ^ (n % 64)) % 2 ^ 64
+
+-- the first number at or after `from`, or 4,096, and the rest of its word
+pub record Spotted (ws : List ℕ) (from at rest : ℕ) : Type 0 where
+  pub first : NextNumber ws from 4096 at
+  pub left : at < 4096 → rest ≡ restOf ws at
 
 -- no number of a set is above 4,095: its head has 64 bits
 pub none-above : (ws : List ℕ) → length ws ≡ 65 → (k : ℕ) → 4096 ≤ k → has ws k ≡ false

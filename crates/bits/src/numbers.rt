@@ -7,7 +7,7 @@
 ghost use mathlib.Core.Path.{_≡_};
 ghost use Prim.Native.Nat.{_+_, _*_, _≤_, _<_};
 ghost use lib.ListN.{length};
-ghost use Rattle.bits.specs.Numbers.{NumberSet, Emptied, Puts, NextNumber};
+ghost use Rattle.bits.specs.Numbers.{NumberSet, Emptied, Puts, Member, NextNumber, restOf, Spotted};
 
 // Takes all numbers out, whatever the words hold.
 pub fn empty(map: &mut [u64])
@@ -67,4 +67,42 @@ pub fn next(map: &[u64], from: usize) -> usize
         return 4096;
     }
     i * 64 + in_word(map, i, 0)
+}
+
+// A number, and the rest of its word, shifted so that the number's bit comes first. Where there is no number, `at` is 4,096.
+pub struct Spot {
+    pub at: usize,
+    pub rest: u64,
+}
+
+// The first number at or after `from`.
+pub fn first(map: &[u64], from: usize) -> Spot
+    requires { ⌜ NumberSet (now map) ⌝ }
+    requires { ⌜ from ≤ 4096 ⌝ }
+    ensures { λ r. ⌜ Spotted (now (map .entry)) from (r .at) (r .rest) ⌝ }
+{
+    let at = next(map, from);
+    if 4096 <= at {
+        return Spot { at, rest: 0 };
+    }
+    let rest = map[at / 64] << (at % 64);
+    Spot { at, rest }
+}
+
+// The next number behind a spot: as long as its word has one more, neither the head nor the word is looked at again.
+pub fn after(map: &[u64], at: usize, rest: u64) -> Spot
+    requires { ⌜ NumberSet (now map) ⌝ }
+    requires { ⌜ (at < 4096) × Member (now map) at ⌝ }
+    requires { ⌜ rest ≡ restOf (now map) at ⌝ }
+    ensures { λ r. ⌜ Spotted (now (map .entry)) (at + 1) (r .at) (r .rest) ⌝ }
+{
+    let left = rest << 1;
+    if left == 0 {
+        return first(map, at / 64 * 64 + 64);
+    }
+    let z = u64::leading_zeros(left) as usize;
+    Spot {
+        at: at + 1 + z,
+        rest: left << z,
+    }
 }

@@ -336,11 +336,11 @@ pub fn list(marks: &[u64], out: &mut [u16]) -> usize
     ensures { λ n. ⌜ Lists (now (marks .entry)) (now (out .entry)) (now (out .exit)) n ⌝ }
 {
     let mut n: usize = 0;
-    let mut k = bits::numbers::next(marks, 0);
-    while k < 4096 {
-        out[n] = k as u16;
+    let mut s = bits::numbers::first(marks, 0);
+    while s.at < 4096 {
+        out[n] = s.at as u16;
         n += 1;
-        k = bits::numbers::next(marks, k + 1);
+        s = bits::numbers::after(marks, s.at, s.rest);
     }
     n
 }
