@@ -248,22 +248,22 @@ fn unpack(n: u32) -> Point
     }
 }
 
-// Marks the numbers of the rules that answer, from the tree's first node on. The points that wait stand on a list, at the
-// length that is always enough.
+// Marks the numbers of the rules that answer, from the tree's first node on. The points that wait stand on the list that is lent.
 fn search(
     m: &[u64],
     fills_question: bool,
     fills_rule: bool,
     question: &[u16],
     marks: &mut [u64],
+    list: &mut [u32],
     first: usize,
 )
     requires { ⌜ Passing (now m) × (IsTerm (now question) × NumberSet (now marks)) ⌝ }
+    requires { ⌜ length (now list) ≡ 33 ⌝ }
     requires { ⌜ first ≡ firstOf (getD (now m) 72 0) ⌝ }
     requires { ⌜ (first ≡ 0 → ⊥) ⌝ }
     ensures { λ _. ⌜ Searched «fills_question» «fills_rule» (now (m .entry)) (now (question .entry)) (now (marks .entry)) (now (marks .exit)) ⌝ }
 {
-    let mut list: [u32; 33] = [0; 33];
     let mut depth: usize = 0;
     let mut p = Point {
         link: first,
@@ -296,7 +296,7 @@ fn search(
     }
 }
 
-// Marks the numbers of the rules that answer.
+// The same with the list made here, at the length that is always enough.
 pub fn mark_answers(
     m: &[u64],
     fills_question: bool,
@@ -311,7 +311,16 @@ pub fn mark_answers(
 {
     let first = tree::first_of(m[72]) as usize;
     if first != 0 {
-        search(m, fills_question, fills_rule, question, marks, first);
+        let mut list: [u32; 33] = [0; 33];
+        search(
+            m,
+            fills_question,
+            fills_rule,
+            question,
+            marks,
+            &mut list,
+            first,
+        );
     }
 }
 

@@ -14,20 +14,20 @@ use Rattle.questions.proofs.search.Statement.{statement}
 use Rattle.questions.proofs.search.Tie as tie
 
 abbrev Inv-loop : tie.InvT-loop
-Inv-loop m fills-question fills-rule question marks₀ first list₀ depth₀ p₀ marks list depth p = (length marks ≡ length marks₀) × ((b : Book m question) × Searching fills-question fills-rule m question b marks₀ marks list depth p)
+Inv-loop m fills-question fills-rule question marks₀ list₀ first depth₀ p₀ marks list depth p = (length marks ≡ length marks₀) × ((b : Book m question) × Searching fills-question fills-rule m question b marks₀ marks list depth p)
 
 abbrev μ-loop : tie.MeasureT-loop
-μ-loop m fills-question fills-rule question marks₀ first list₀ depth₀ p₀ marks list depth p = left fills-question fills-rule m question list depth p
+μ-loop m fills-question fills-rule question marks₀ list₀ first depth₀ p₀ marks list depth p = left fills-question fills-rule m question list depth p
 
 loop-holds : tie.Need-loop-holds Inv-loop μ-loop
 loop-holds c =
-    let s = c .before .before .before in
-    let b : Book (s .args .m .now) (s .args .question .now) = record { passing = s .pre .0 .0; whole = s .pre .0 .1 .0; words = λ i. c .before .before .shared-slice-known .given i .fits } in
-    (refl, (b, starts (s .args .fills-question) (s .args .fills-rule) (s .args .m .now) (s .args .question .now) b (s .args .first) (s .pre .1 .0) (s .args .marks .now) _ (s .pre .0 .1 .1) refl (s .pre .1 .1)))
+    let s = c .before .before .before .before in
+    let b : Book (s .args .m .now) (s .args .question .now) = record { passing = s .pre .0 .0; whole = s .pre .0 .1 .0; words = λ i. c .before .before .before .shared-slice-known .given i .fits } in
+    (refl, (b, starts (s .args .fills-question) (s .args .fills-rule) (s .args .m .now) (s .args .question .now) b (s .args .first) (s .pre .1 .1 .0) (s .args .marks .now) (s .args .list .now) (s .pre .0 .1 .1) (s .pre .1 .0) (s .pre .1 .1 .1)))
 
 -- how many wait
 low : (l : tie.At-loop Inv-loop μ-loop) → l .loop .depth ≤ 32
-low l = let s = l .before .before .before .before .args in deep (s .fills-question) (s .fills-rule) (s .m .now) (s .question .now) (l .loop .inv .1 .0) (s .marks .now) (l .loop .marks) (l .loop .list) (l .loop .depth) (l .loop .p) (l .loop .inv .1 .1)
+low l = let s = l .before .before .before .before .before .args in deep (s .fills-question) (s .fills-rule) (s .m .now) (s .question .now) (l .loop .inv .1 .0) (s .marks .now) (l .loop .marks) (l .loop .list) (l .loop .depth) (l .loop .p) (l .loop .inv .1 .1)
 
 -- the point at hand is tried
 module _ (k : tie.After-struct-known Inv-loop μ-loop) where
@@ -38,7 +38,7 @@ module _ (k : tie.After-struct-known Inv-loop μ-loop) where
   now = k .before .before .before .before .before
 
   abbrev start : tie.Start Inv-loop μ-loop
-  start = now .before .before .before .before
+  start = now .before .before .before .before .before
 
   same-marks : length (tried .try-point .last .1 .1 .1 .1 .0) ≡ length (start .args .marks .now)
   same-marks = tried .try-point .kept .1 .1 .1 .1 .0 ∙ now .loop .inv .0
@@ -88,9 +88,9 @@ returns c =
     let l = now k .loop in
     ends (s .fills-question) (s .fills-rule) (s .m .now) (s .question .now) (l .inv .1 .0) (s .marks .now) (l .marks) (l .list) (l .depth) (l .p) (l .inv .1 .1) _ (tried k .try-point .result) (tried k .try-point .ensures) (e .before .before .if1 .left) (e .if3 .left) (c .if4 .taken)
 
-popped : (c : tie.After-unpack Inv-loop μ-loop) → Next (c .before .before .before .before .before) (now (c .before .before .before .before .before) .loop .list) (now (c .before .before .before .before .before) .loop .depth - 1) (c .unpack .result)
+popped : (c : tie.After-unpack Inv-loop μ-loop) → Next (c .before .before .before .before .before .before) (now (c .before .before .before .before .before .before) .loop .list) (now (c .before .before .before .before .before .before) .loop .depth - 1) (c .unpack .result)
 popped c =
-    let f = c .before in
+    let f = c .before .before in
     let e = f .before in
     let k = e .before .before .before in
     let s = start k .args in
@@ -107,7 +107,7 @@ search-spec =
     (λ c κs. let s = c .before .loop .inv .1 .1 in (s .here .ready, (s .here .some, s .marked .map)))
     pack-requires
     (λ c. let h = low (now (c .before .before .before .before)) in record { fits = omega arith })
-    (λ c. let h = low (now (c .before .before .before .before)) in omega arith)
+    (λ c. let l = now (c .before .before .before .before) in let h = low l in omega (arith, l .loop .inv .1 .1 .long))
     (λ c. let h = low (now (c .before .before .before .before)) in record { fits = omega arith })
     (λ c. pushed c .less)
     (λ c. let k = c .before .before .before .before in (same-marks k, (now k .loop .inv .1 .0, pushed c .again)))
@@ -116,10 +116,11 @@ search-spec =
     (λ c. moved c .less)
     (λ c. (same-marks (c .before .before .before), (now (c .before .before .before) .loop .inv .1 .0, moved c .again)))
     (λ c. same-marks (c .before .before .before .before))
+    (λ c. let k = c .before .before .before .before in now k .loop .inv .1 .1 .long ∙ sym (start k .pre .1 .0))
     returns
     (λ c. let h = c .if4 .left in omega arith)
     (λ c. let h = low (now (c .before .before .before .before)) in record { fits = omega arith })
-    (λ c. let h = low (now (c .before .before .before .before)) in omega arith)
+    (λ c. let l = now (c .before .before .before .before .before) in let h = low l in omega (arith, l .loop .inv .1 .1 .long))
     (λ c κs. tt)
     (λ c. popped c .less)
-    (λ c. let k = c .before .before .before .before .before in (same-marks k, (now k .loop .inv .1 .0, popped c .again))))
+    (λ c. let k = c .before .before .before .before .before .before in (same-marks k, (now k .loop .inv .1 .0, popped c .again))))
