@@ -111,6 +111,9 @@ pub fn before(m: &[u64], signs: &[u64], p: usize, c: u64) -> usize
     if c <= crate::cell_of(w) {
         return 0;
     }
+    if crate::next_of(w) == 0 {
+        return x;
+    }
     known(m, signs, x, w, c - 1)
 }
 
