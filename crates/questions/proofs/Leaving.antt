@@ -21,7 +21,7 @@ use Rattle.questions.specs.Promises.{walkBefore, walkAfter, Skips, stay,
 use Rattle.questions.proofs.Seeking.{any-met, met-step}
 use Rattle.questions.proofs.Threads.{tree, bound, word-of, beside-threaded}
 
-positive : (t : Trie) → 0 < size t
+pub positive : (t : Trie) → 0 < size t
 positive tip = omega arith
 positive (node n a b) = omega arith
 
@@ -127,12 +127,12 @@ module _ (fq fr : Bool) (ws q : List ℕ) (words : (i : ℕ) → getD ws i 0 < 2
       fewer = (let s = sizes ws words (p .link) (r .threaded) some in let a = positive (trie (view ws .tree) (firstOf (getD ws (72 + p .link) 0))) in let b = positive (trie (view ws .tree) (nextOf (getD ws (72 + p .link) 0))) in let z = ap size (tip-at ws) in omega arith);
       deeper = (let h = below-height ws words (p .link) (r .threaded) some in let z = ap height (tip-at ws) in omega arith);
       level = (let z = ap height (tip-at ws) in omega arith);
-      below = empty 0 0 (omega arith) (omega arith);
-      beside = empty (p .skip) (p .place) few-here (r .inside);
+      below-ready = empty 0 0 (omega arith) (omega arith);
+      beside-ready = empty (p .skip) (p .place) few-here (r .inside);
     }
 
-    beside-ready : ((n : ℕ) → List·Memᴰ n (hitsAt fq fr ws q (record { link = nextOf (getD ws (72 + p .link) 0); skip = p .skip; place = p .place })) → List·Memᴰ n (hitsAt fq fr ws q p)) → Ready fq fr ws q (record { link = nextOf (getD ws (72 + p .link) 0); skip = p .skip; place = p .place })
-    beside-ready among = record {
+    beside-readies : ((n : ℕ) → List·Memᴰ n (hitsAt fq fr ws q (record { link = nextOf (getD ws (72 + p .link) 0); skip = p .skip; place = p .place })) → List·Memᴰ n (hitsAt fq fr ws q p)) → Ready fq fr ws q (record { link = nextOf (getD ws (72 + p .link) 0); skip = p .skip; place = p .place })
+    beside-readies among = record {
       threaded = beside-threaded ws (p .link) (r .threaded) some;
       short = r .short;
       inside = r .inside;
@@ -147,14 +147,14 @@ module _ (fq fr : Bool) (ws q : List ℕ) (words : (i : ℕ) → getD ws i 0 < 2
       fewer = (let s = sizes ws words (p .link) (r .threaded) some in omega arith);
       deeper = below-height ws words (p .link) (r .threaded) some;
       level = beside-height ws words (p .link) (r .threaded) some;
-      below = record {
+      below-ready = record {
         threaded = child-threaded ws words (p .link) (r .threaded) some;
         short = r .short;
         inside = inside;
         few = (let h = below-height ws words (p .link) (r .threaded) some in let f = r .few in omega arith);
         low = λ n i. r .low n (subst (List·Memᴰ n) (sym both) (Memᴰ·append-left _ i));
       };
-      beside = beside-ready (λ n i. subst (List·Memᴰ n) (sym both) (Memᴰ·append-right (hitsAt fq fr ws q (record { link = firstOf (getD ws (72 + p .link) 0); skip = v .skip; place = v .place })) i));
+      beside-ready = beside-readies (λ n i. subst (List·Memᴰ n) (sym both) (Memᴰ·append-right (hitsAt fq fr ws q (record { link = firstOf (getD ws (72 + p .link) 0); skip = v .skip; place = v .place })) i));
     }))
       where
         both : hitsAt fq fr ws q p ≡ hitsAt fq fr ws q (record { link = firstOf (getD ws (72 + p .link) 0); skip = v .skip; place = v .place }) ++ hitsAt fq fr ws q (record { link = nextOf (getD ws (72 + p .link) 0); skip = p .skip; place = p .place })
@@ -167,8 +167,8 @@ module _ (fq fr : Bool) (ws q : List ℕ) (words : (i : ℕ) → getD ws i 0 < 2
       fewer = (let s = sizes ws words (p .link) (r .threaded) some in let a = positive (trie (view ws .tree) (firstOf (getD ws (72 + p .link) 0))) in let z = ap size (tip-at ws) in omega arith);
       deeper = (let h = below-height ws words (p .link) (r .threaded) some in let z = ap height (tip-at ws) in omega arith);
       level = beside-height ws words (p .link) (r .threaded) some;
-      below = empty 0 0 (omega arith) (omega arith);
-      beside = beside-ready (λ n i. subst (List·Memᴰ n) (sym same) i);
+      below-ready = empty 0 0 (omega arith) (omega arith);
+      beside-ready = beside-readies (λ n i. subst (List·Memᴰ n) (sym same) i);
     })
       where
         same : hitsAt fq fr ws q p ≡ hitsAt fq fr ws q (record { link = nextOf (getD ws (72 + p .link) 0); skip = p .skip; place = p .place })
@@ -220,7 +220,7 @@ module _ (fq fr : Bool) (ws q : List ℕ) (words : (i : ℕ) → getD ws i 0 < 2
       on s =
           let l = stops fq fr ws q words (moved p x) (s .ready) some (nextOf (getD ws (72 + x) 0)) refl (subst (λ (k : ℕ). walkAfter fq fr q (getD ws (72 + x) 0) k (p .place) ≡ reading failed) none fails) in
           record {
-            ready = l .beside;
+            ready = l .beside-ready;
             same = s .same ∙ l .gives ∙ ap (λ (y : List ℕ). y ++ hitsAt fq fr ws q (moved p (nextOf (getD ws (72 + x) 0)))) (nothing-at fq fr ws q (record { link = 0; skip = 0; place = 0 }) refl);
             small = (let a = s .small in let b = l .fewer in omega arith);
             level = (let a = s .level in let b = l .level in omega arith);
@@ -233,8 +233,8 @@ module _ (fq fr : Bool) (ws q : List ℕ) (words : (i : ℕ) → getD ws i 0 < 2
     fewer = (let a = s .small in let b = l .fewer in omega arith);
     deeper = (let a = s .level in let b = l .deeper in omega arith);
     level = (let a = s .level in let b = l .level in omega arith);
-    below = l .below;
-    beside = l .beside;
+    below-ready = l .below-ready;
+    beside-ready = l .beside-ready;
   }
 
   -- two cells meet, at the first node from the point on

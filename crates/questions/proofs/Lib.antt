@@ -4,6 +4,7 @@ pub mod Leaps
 pub mod Seeking
 pub mod Leaving
 pub mod Marking
-pub mod Packing
+pub mod Turning
 pub mod Searching
+pub mod Lending
 pub mod Writing

@@ -1,10 +1,10 @@
--- The loop of the search: what was found so far, what the point at hand and the points that wait have yet to give is all that there is to find, and
--- each turn leaves less of it.
+-- The loop of the search: what was found so far, and what the points on the list have yet to give, is all that there is to find, and each turn
+-- leaves less of it.
 use mathlib.Core.Path.{_≡_, refl, sym, ap, ap₂, _∙_, subst}
 use mathlib.Core.Logic.{_⊎_, inl, inr, _↔_}
 use mathlib.Core.List.{[], List, _++_, append-nil, append-assoc, List·Memᴰ}
 use mathlib.Core.Bool.{Bool}
-use Prim.Native.Nat.{ℕ, zero, suc, _+_, _-_, _*_, _/_, _%_, _^_, _≤_, _<_}
+use Prim.Native.Nat.{ℕ, zero, suc, _+_, _-_, _^_, _≤_, _<_}
 use native.Mathlib.Omega.{arith}
 use native.Mathlib.Decide.{ℕ-discrete}
 use lib.ListN.{length, getD, set, length-set, take}
@@ -22,47 +22,50 @@ use Rattle.book.specs.Memory.{view, term, Passing, rulesIn}
 use Rattle.book.specs.Holding.{at-holds, holds-at}
 use Rattle.book.specs.Promises.{IsTerm}
 use Rattle.questions.specs.declared.Point.{Point}
-use Rattle.questions.specs.declared.Ways.{Ways}
+use Rattle.questions.specs.declared.Points.{Points}
 use Rattle.questions.specs.Demand2.{term-form}
 use Rattle.questions.specs.Walk.{next, good, found, found-rule, rule-found}
-use Rattle.questions.specs.Promises.{walkBefore, Threaded, sizeAt, heightAt, hitsAt, Ready, Marked, besideOf, belowOf, Left, Tried, pointIn, Answering, Searched}
-use Rattle.questions.proofs.Leaving.{nothing-at, some-height}
+use Rattle.questions.specs.Promises.{walkBefore, Threaded, sizeAt, heightAt, hitsAt, Ready, Marked, Splits, Steady, Goes, gone, splits, Went, Rooted, Answering, Searched}
+use Rattle.questions.proofs.Leaving.{positive}
 use Rattle.questions.proofs.Marking.{marks-none, marks-on}
 use Rattle.questions.proofs.Threads as threads
 
--- a point that waits
-abbrev pub pointAt : List ℕ → ℕ → Point
-pointAt l j = pointIn (getD l j 0)
+-- the point at a level
+abbrev pub pointAt : List Point → ℕ → Point
+pointAt l j = getD l j (record { link = 0; skip = 0; place = 0 })
+
+-- how much of the tree is behind the first k points of the list
+pub left : List ℕ → List Point → ℕ → ℕ
+left ws l zero = 0
+left ws l (suc k) = sizeAt ws (pointAt l k .link) + left ws l k
+
+left-same : (ws : List ℕ) (l l′ : List Point) (k : ℕ) → ((j : ℕ) → j < k → pointAt l′ j ≡ pointAt l j) → left ws l′ k ≡ left ws l k
+unfolding left
+left-same ws l l′ zero h = refl
+left-same ws l l′ (suc k) h = ap₂ (λ (x : Point) (y : ℕ). sizeAt ws (x .link) + y) (h k (omega arith)) (left-same ws l l′ k (λ j i. h j (omega arith)))
+
+left-last : (ws : List ℕ) (l : List Point) (d : ℕ) → 0 < d → left ws l d ≡ sizeAt ws (pointAt l (d - 1) .link) + left ws l (d - 1)
+unfolding left
+left-last ws l d h = let up : d ≡ suc (d - 1) = omega arith in ap (left ws l) up
 
 module _ (fq fr : Bool) (ws q : List ℕ) where
-  -- what the first k points of the list have yet to give
-  pub waiting : List ℕ → ℕ → List ℕ
+  -- and what they have yet to give
+  pub waiting : List Point → ℕ → List ℕ
   waiting l zero = []
   waiting l (suc k) = hitsAt fq fr ws q (pointAt l k) ++ waiting l k
 
-  waiting-same : (l l′ : List ℕ) (k : ℕ) → ((j : ℕ) → j < k → getD l′ j 0 ≡ getD l j 0) → waiting l′ k ≡ waiting l k
+  waiting-same : (l l′ : List Point) (k : ℕ) → ((j : ℕ) → j < k → pointAt l′ j ≡ pointAt l j) → waiting l′ k ≡ waiting l k
   unfolding waiting
   waiting-same l l′ zero h = refl
-  waiting-same l l′ (suc k) h = ap₂ (λ (x : ℕ) (y : List ℕ). hitsAt fq fr ws q (pointIn x) ++ y) (h k (omega arith)) (waiting-same l l′ k (λ j i. h j (omega arith)))
+  waiting-same l l′ (suc k) h = ap₂ (λ (x : Point) (y : List ℕ). hitsAt fq fr ws q x ++ y) (h k (omega arith)) (waiting-same l l′ k (λ j i. h j (omega arith)))
 
-  -- and how much of the tree is behind them
-  pub work : List ℕ → ℕ → ℕ
-  work l zero = 0
-  work l (suc k) = sizeAt ws (pointAt l k .link) + work l k
-
-  work-same : (l l′ : List ℕ) (k : ℕ) → ((j : ℕ) → j < k → getD l′ j 0 ≡ getD l j 0) → work l′ k ≡ work l k
-  unfolding work
-  work-same l l′ zero h = refl
-  work-same l l′ (suc k) h = ap₂ (λ (x y : ℕ). sizeAt ws (pointIn x .link) + y) (h k (omega arith)) (work-same l l′ k (λ j i. h j (omega arith)))
-
-  -- how much of the tree is left
-  abbrev pub left : List ℕ → ℕ → Point → ℕ
-  left l depth p = sizeAt ws (p .link) + work l depth
+  waiting-last : (l : List Point) (d : ℕ) → 0 < d → waiting l d ≡ hitsAt fq fr ws q (pointAt l (d - 1)) ++ waiting l (d - 1)
+  unfolding waiting
+  waiting-last l d h = let up : d ≡ suc (d - 1) = omega arith in ap (waiting l) up
 
   -- A point that can be tried, and how deep the tree may be below it.
   pub record Good (p : Point) (level : ℕ) : Type 0 where
     pub ready : Ready fq fr ws q p
-    pub some : ¬ (p .link ≡ 0)
     pub high : level + heightAt ws (p .link) ≤ 33
 
 -- What does not change in a search.
@@ -85,14 +88,14 @@ module _ (fq fr : Bool) (ws q : List ℕ) (b : Book ws q) where
   pub all : List ℕ
   all = found fq fr (blankForm q) wq (view ws) low (b .passing .right) bound
 
-  -- what the loop keeps: the marks, the list, how many wait on it, and the point at hand
-  pub record Searching (marks₀ marks l : List ℕ) (depth : ℕ) (p : Point) : Type 0 where
-    pub long : length l ≡ 33
+  -- what the loop keeps: the marks, the list, and how many stand on it
+  pub record Searching (marks₀ marks : List ℕ) (l : List Point) (depth : ℕ) : Type 0 where
+    pub long : length l ≡ 35
+    pub deep : depth ≤ 34
     pub sofar : List ℕ
     pub marked : Marked ws marks₀ marks sofar
-    pub total : sofar ++ (hitsAt fq fr ws q p ++ waiting fq fr ws q l depth) ≡ all
-    pub here : Good fq fr ws q p depth
-    pub waits : (j : ℕ) → j < depth → Good fq fr ws q (pointAt l j) j
+    pub total : sofar ++ waiting fq fr ws q l depth ≡ all
+    pub stand : (j : ℕ) → j < depth → Good fq fr ws q (pointAt l j) j
 
   -- ---- the root
 
@@ -122,15 +125,15 @@ module _ (fq fr : Bool) (ws q : List ℕ) (b : Book ws q) where
           subst (λ (c : ℕ). c < 4096) (ap (view ws .tree .cell) (sym (x .1))) (b .passing .right .records (x .0) (x .2) .low);
     }
 
-    pub starts : (marks l : List ℕ) → NumberSet marks → length l ≡ 33 → ¬ (first ≡ 0) → Searching marks marks l 0 (record { link = first; skip = 0; place = 0 })
+    pub starts : (marks : List ℕ) (l : List Point) → NumberSet marks → length l ≡ 35 → pointAt l 0 ≡ record { link = first; skip = 0; place = 0 } → Searching marks marks l 1
     unfolding waiting
-    starts marks l set long some = record {
+    starts marks l set long is = record {
       long = long;
+      deep = omega arith;
       sofar = [];
       marked = marks-none ws marks set;
-      total = append-nil _ ∙ root-hits;
-      here = record { ready = root-ready; some = some; high = (let h = root-low in omega arith) };
-      waits = λ j h. absurd (omega arith);
+      total = append-nil _ ∙ ap (hitsAt fq fr ws q) is ∙ root-hits;
+      stand = λ j h. let z : 0 ≡ j = omega arith in subst (λ (i : ℕ). Good fq fr ws q (pointAt l i) i) z (subst (λ (p : Point). Good fq fr ws q p 0) (sym is) (record { ready = root-ready; high = (let h = root-low in omega arith) }));
     }
 
   -- ---- the end
@@ -158,153 +161,128 @@ module _ (fq fr : Bool) (ws q : List ℕ) (b : Book ws q) where
           let a = holds-at (view ws) k (x .term) (x .held) in
           inr (4096 + a .place, subst (List·Memᴰ (4096 + a .place)) (sym whole) (rule-found fq fr (blankForm q) wq (view ws) low (b .passing .right) bound (a .place) (a .used) (ap (λ (t : List ℕ). done (run fq fr (at 0 (blankForm q)) (blankForm t))) (a .is) ∙ x .accepted)), a .has)
 
-  -- an empty tree
-  pub nothing-held : (first : ℕ) → first ≡ firstOf (getD ws 72 0) → first ≡ 0 → (marks : List ℕ) → NumberSet marks → Searched fq fr ws q marks marks
-  nothing-held first e z marks set = searched marks marks [] (marks-none ws marks set) (sym (nothing-at fq fr ws q (rootOf first) z) ∙ root-hits first e)
+-- the loop's invariant
+abbrev pub Loop : Bool → Bool → (ws q marks₀ marks : List ℕ) → List Point → ℕ → Type 0
+Loop fq fr ws q marks₀ marks l depth = (b : Book ws q) × Searching fq fr ws q b marks₀ marks l depth
 
-  -- ---- one turn
+-- the loop begins at the root
+pub starts-out : (fq fr : Bool) (ws q marks : List ℕ) (l : List Point) → Passing ws → IsTerm q → NumberSet marks → Rooted ws l → Loop fq fr ws q marks marks l 1
+starts-out fq fr ws q marks l pass whole set r =
+    let b : Book ws q = record { passing = pass; whole = whole; words = r .root .words } in
+    (b, starts fq fr ws q b (firstOf (getD ws 72 0)) refl marks l set (r .long) (r .root .is))
 
-  -- The loop after a turn: its invariant holds again, and there is less left.
-  pub record Again (marks₀ l : List ℕ) (depth : ℕ) (p : Point) (marks′ l′ : List ℕ) (depth′ : ℕ) (p′ : Point) : Type 0 where
-    pub again : Searching marks₀ marks′ l′ depth′ p′
-    pub less : left fq fr ws q l′ depth′ p′ < left fq fr ws q l depth p
+-- The loop after a turn: its invariant holds again, and there is less left.
+pub record Again (fq fr : Bool) (ws q marks₀ : List ℕ) (l : List Point) (depth : ℕ) (marks′ : List ℕ) (l′ : List Point) (depth′ : ℕ) : Type 0 where
+  pub again : Loop fq fr ws q marks₀ marks′ l′ depth′
+  pub fewer : left ws l′ depth′ < left ws l depth
 
-  module _ (marks₀ marks l : List ℕ) (depth : ℕ) (p : Point) (s : Searching marks₀ marks l depth p) where
-    pub deep : depth ≤ 32
-    deep = let h = s .here .high in let a = some-height ws (b .words) (p .link) (s .here .ready .threaded) (s .here .some) in omega arith
+module _ (fq fr : Bool) (ws q marks₀ marks : List ℕ) (l : List Point) (depth : ℕ) (i : Loop fq fr ws q marks₀ marks l depth) where
+  abbrev s : Searching fq fr ws q (i .0) marks₀ marks l depth
+  s = i .1
 
-    module _ (marks′ : List ℕ) (v : Ways) (t : Tried fq fr ws q marks marks′ p v) where
-      abbrev sofar′ : List ℕ
-      sofar′ = s .sofar ++ t .nodes
+  -- none stands
+  pub ends : depth ≤ 0 → Searched fq fr ws q marks₀ marks
+  unfolding waiting
+  ends h = let z : depth ≡ 0 = omega arith in
+      searched fq fr ws q (i .0) marks₀ marks (s .sofar) (s .marked) (sym (append-nil (s .sofar)) ∙ ap (λ (d : ℕ). s .sofar ++ waiting fq fr ws q l d) (sym z) ∙ s .total)
 
-      marked′ : Marked ws marks₀ marks′ sofar′
-      marked′ = marks-on ws marks₀ marks marks′ (s .sofar) (t .nodes) (s .marked) (t .marked)
+  module _ (h : 0 < depth) where
+    abbrev p : Point
+    p = pointAt l (depth - 1)
 
-      abbrev below-hits : List ℕ
-      below-hits = hitsAt fq fr ws q (belowOf v)
+    last : Good fq fr ws q p (depth - 1)
+    last = s .stand (depth - 1) (omega arith)
 
-      abbrev beside-hits : List ℕ
-      beside-hits = hitsAt fq fr ws q (besideOf p v)
+    pub stood : Steady fq fr ws q marks (pointAt l (depth - 1)) depth
+    stood = record { ready = last .ready; map = s .marked .map; some = h; deep = s .deep }
 
-      abbrev rest : List ℕ
-      rest = waiting fq fr ws q l depth
+    -- a turn
+    module _ (marks′ : List ℕ) (r : Points) where
+      abbrev one : List Point
+      one = set l (depth - 1) (r .beside)
 
-      total′ : (x : List ℕ) → (below-hits ++ beside-hits) ++ rest ≡ x → sofar′ ++ x ≡ all
-      total′ x e =
-          ap (λ (y : List ℕ). sofar′ ++ y) (sym e) ∙ append-assoc (s .sofar) (t .nodes) ((below-hits ++ beside-hits) ++ rest)
-          ∙ ap (λ (y : List ℕ). s .sofar ++ y) (sym (append-assoc (t .nodes) (below-hits ++ beside-hits) rest) ∙ ap (λ (y : List ℕ). y ++ rest) (sym (t .left .gives)))
-          ∙ s .total
+      abbrev l′ : List Point
+      l′ = set (set l (depth - 1) (r .beside)) depth (r .below)
 
-      no-below : v .down ≡ 0 → below-hits ≡ []
-      no-below z = nothing-at fq fr ws q (belowOf v) z
+      long′ : length l′ ≡ 35
+      long′ = length-set one depth (r .below) ∙ length-set l (depth - 1) (r .beside) ∙ s .long
 
-      no-beside : v .beside ≡ 0 → beside-hits ≡ []
-      no-beside z = nothing-at fq fr ws q (besideOf p v) z
+      -- the points before it stay
+      others : (j : ℕ) → j < depth - 1 → pointAt l′ j ≡ pointAt l j
+      others j a = getD-set-other one depth j (r .below) _ (λ e. omega arith) ∙ getD-set-other l (depth - 1) j (r .beside) _ (λ e. omega arith)
 
-      below-good : ¬ (v .down ≡ 0) → Good fq fr ws q (belowOf v) (suc depth)
-      below-good nz = record { ready = t .left .below; some = nz; high = (let h = s .here .high in let a = t .left .deeper in omega arith) }
+      beside-is : pointAt l′ (depth - 1) ≡ r .beside
+      beside-is = getD-set-other one depth (depth - 1) (r .below) _ (λ e. omega arith) ∙ getD-set-same l (depth - 1) (r .beside) _ (let d = s .deep in omega (arith, s .long))
 
-      beside-good : ¬ (v .beside ≡ 0) → Good fq fr ws q (besideOf p v) depth
-      beside-good nz = record { ready = t .left .beside; some = nz; high = (let h = s .here .high in let a = t .left .level in omega arith) }
+      below-is : pointAt l′ depth ≡ r .below
+      below-is = getD-set-same one depth (r .below) _ (let d = s .deep in omega (arith, s .long, length-set l (depth - 1) (r .beside)))
 
-      -- the sibling waits, and the child is next
-      pub pushes : ¬ (v .down ≡ 0) → ¬ (v .beside ≡ 0) → (n : ℕ) → pointIn n ≡ record { link = v .beside; skip = p .skip; place = p .place } → Again marks₀ l depth p marks′ (set l depth n) (depth + 1) (record { link = v .down; skip = v .skip; place = v .place })
-      unfolding waiting work
-      pushes nd nb n e = subst (λ (d : ℕ). Again marks₀ l depth p marks′ (set l depth n) d (belowOf v)) up (record { again = again; less = less })
-        where
-          up : suc depth ≡ depth + 1
-          up = omega arith
+      stand′ : (j : ℕ) → j < depth - 1 → Good fq fr ws q (pointAt l′ j) j
+      stand′ j a = subst (λ (x : Point). Good fq fr ws q x j) (sym (others j a)) (s .stand j (omega arith))
 
-          here : getD (set l depth n) depth 0 ≡ n
-          here = getD-set-same l depth n 0 (let d = deep in omega (arith, s .long))
+      module _ (nodes : List ℕ) (m : Marked ws marks marks′ nodes) where
+        marked′ : Marked ws marks₀ marks′ (s .sofar ++ nodes)
+        marked′ = marks-on ws marks₀ marks marks′ (s .sofar) nodes (s .marked) m
 
-          point-is : pointAt (set l depth n) depth ≡ besideOf p v
-          point-is = ap pointIn here ∙ e
+        abbrev rest : List ℕ
+        rest = waiting fq fr ws q l (depth - 1)
 
-          others : (j : ℕ) → j < depth → getD (set l depth n) j 0 ≡ getD l j 0
-          others j h = getD-set-other l depth j n 0 (λ d. omega arith)
+        total′ : (x y : List ℕ) → hitsAt fq fr ws q p ≡ nodes ++ x → x ++ rest ≡ y → (s .sofar ++ nodes) ++ y ≡ all fq fr ws q (i .0)
+        total′ x y e f =
+            ap (λ (z : List ℕ). (s .sofar ++ nodes) ++ z) (sym f) ∙ append-assoc (s .sofar) nodes (x ++ rest)
+            ∙ ap (λ (z : List ℕ). s .sofar ++ z) (sym (append-assoc nodes x rest) ∙ ap (λ (z : List ℕ). z ++ rest) (sym e) ∙ sym (waiting-last fq fr ws q l depth h)) ∙ s .total
 
-          waits′ : (j : ℕ) → Dec (j ≡ depth) → j < suc depth → Good fq fr ws q (pointAt (set l depth n) j) j
-          waits′ j (yes d) h = subst (λ (i : ℕ). Good fq fr ws q (pointAt (set l depth n) i) i) (sym d) (subst (λ (x : Point). Good fq fr ws q x depth) (sym point-is) (beside-good nb))
-          waits′ j (no d) h = subst (λ (x : ℕ). Good fq fr ws q (pointIn x) j) (sym (others j (omega arith))) (s .waits j (omega arith))
+        goes-away : hitsAt fq fr ws q p ≡ nodes → Again fq fr ws q marks₀ l depth marks′ l′ (depth - 1)
+        goes-away e = record {
+          again = (
+            i .0,
+            record {
+              long = long′;
+              deep = (let d = s .deep in omega arith);
+              sofar = s .sofar ++ nodes;
+              marked = marked′;
+              total = total′ [] _ (e ∙ sym (append-nil nodes)) (sym (waiting-same fq fr ws q l l′ (depth - 1) others));
+              stand = stand′;
+            },
+          );
+          fewer = (let a = left-same ws l l′ (depth - 1) others in let c = left-last ws l depth h in let d = positive (trie (view ws .tree) (p .link)) in omega arith);
+        }
 
-          again : Searching marks₀ marks′ (set l depth n) (suc depth) (belowOf v)
-          again = record {
-            long = length-set l depth n ∙ s .long;
-            sofar = sofar′;
-            marked = marked′;
-            total = total′ _ (append-assoc below-hits beside-hits rest ∙ ap (λ (y : List ℕ). below-hits ++ y) (ap₂ (λ (x : Point) (y : List ℕ). hitsAt fq fr ws q x ++ y) (sym point-is) (sym (waiting-same fq fr ws q l (set l depth n) depth others))));
-            here = below-good nd;
-            waits = λ j h. waits′ j (ℕ-discrete j depth) h;
-          }
-
-          less : left fq fr ws q (set l depth n) (suc depth) (belowOf v) < left fq fr ws q l depth p
-          less =
-              let a = t .left .fewer in
-              let c = ap (λ (x : Point). sizeAt ws (x .link)) point-is in
-              let d = work-same fq fr ws q l (set l depth n) depth others in
-              omega arith
-
-      -- the child is next
-      pub descends : ¬ (v .down ≡ 0) → v .beside ≡ 0 → Again marks₀ l depth p marks′ l depth (record { link = v .down; skip = v .skip; place = v .place })
-      descends nd z = record {
-        again = record {
-          long = s .long;
-          sofar = sofar′;
-          marked = marked′;
-          total = total′ _ (ap (λ (y : List ℕ). y ++ rest) (ap (λ (y : List ℕ). below-hits ++ y) (no-beside z) ∙ append-nil below-hits));
-          here = record { ready = t .left .below; some = nd; high = (let h = s .here .high in let a = t .left .deeper in omega arith) };
-          waits = s .waits;
-        };
-        less = (let a = t .left .fewer in omega arith);
-      }
-
-      -- the sibling is next
-      pub moves-on : v .down ≡ 0 → ¬ (v .beside ≡ 0) → Again marks₀ l depth p marks′ l depth (record { link = v .beside; skip = p .skip; place = p .place })
-      moves-on z nb = record {
-        again = record {
-          long = s .long;
-          sofar = sofar′;
-          marked = marked′;
-          total = total′ _ (ap (λ (y : List ℕ). (y ++ beside-hits) ++ rest) (no-below z));
-          here = beside-good nb;
-          waits = s .waits;
-        };
-        less = (let a = t .left .fewer in omega arith);
-      }
-
-      -- the last that waits is next
-      module _ (zd : v .down ≡ 0) (zb : v .beside ≡ 0) where
-        only-rest : (below-hits ++ beside-hits) ++ rest ≡ rest
-        only-rest = ap₂ (λ (x y : List ℕ). (x ++ y) ++ rest) (no-below zd) (no-beside zb)
-
-        pub pops : ¬ (depth ≡ 0) → (p′ : Point) → p′ ≡ pointAt l (depth - 1) → Again marks₀ l depth p marks′ l (depth - 1) p′
-        unfolding waiting work
-        pops nz p′ e = subst (Again marks₀ l depth p marks′ l (depth - 1)) (sym e) (record {
-          again = record {
-            long = s .long;
-            sofar = sofar′;
-            marked = marked′;
-            total = total′ _ (only-rest ∙ last-hits);
-            here = s .waits (depth - 1) (omega arith);
-            waits = λ j h. s .waits j (omega arith);
-          };
-          less = (let a = t .left .fewer in let d = last-work in omega arith);
-        })
+        comes-apart : Splits fq fr ws q p nodes (r .below) (r .beside) → Again fq fr ws q marks₀ l depth marks′ l′ (suc depth)
+        unfolding waiting left
+        comes-apart t = record {
+          again = (
+            i .0,
+            record {
+              long = long′;
+              deep = (let a = last .high in let c = t .deeper in omega arith);
+              sofar = s .sofar ++ nodes;
+              marked = marked′;
+              total = total′ _ _ (t .gives) (append-assoc (hitsAt fq fr ws q (r .below)) (hitsAt fq fr ws q (r .beside)) rest ∙ ap₂ (λ (x : Point) (y : List ℕ). hitsAt fq fr ws q x ++ y) (sym below-is) (sym two));
+              stand = λ j a. stands j (ℕ-discrete j depth) (ℕ-discrete j (depth - 1)) a;
+            },
+          );
+          fewer =
+              let a = left-same ws l l′ (depth - 1) others in
+              let c = left-last ws l depth h in
+              let d = left-last ws l′ depth h in
+              let e = ap (λ (x : Point). sizeAt ws (x .link)) below-is in
+              let f = ap (λ (x : Point). sizeAt ws (x .link)) beside-is in
+              let g = t .fewer in
+              omega arith;
+        }
           where
-            up : depth ≡ suc (depth - 1)
-            up = omega arith
+            two : waiting fq fr ws q l′ depth ≡ hitsAt fq fr ws q (r .beside) ++ rest
+            two = waiting-last fq fr ws q l′ depth h ∙ ap₂ (λ (x : Point) (y : List ℕ). hitsAt fq fr ws q x ++ y) beside-is (waiting-same fq fr ws q l l′ (depth - 1) others)
 
-            last-hits : waiting fq fr ws q l depth ≡ hitsAt fq fr ws q (pointAt l (depth - 1)) ++ waiting fq fr ws q l (depth - 1)
-            last-hits = ap (waiting fq fr ws q l) up
+            stands : (j : ℕ) → Dec (j ≡ depth) → Dec (j ≡ depth - 1) → j < suc depth → Good fq fr ws q (pointAt l′ j) j
+            stands j (yes e) f a = subst (λ (i : ℕ). Good fq fr ws q (pointAt l′ i) i) (sym e) (subst (λ (x : Point). Good fq fr ws q x depth) (sym below-is) (record { ready = t .below-ready; high = (let b = last .high in let c = t .deeper in omega arith) }))
+            stands j (no e) (yes f) a = subst (λ (i : ℕ). Good fq fr ws q (pointAt l′ i) i) (sym f) (subst (λ (x : Point). Good fq fr ws q x (depth - 1)) (sym beside-is) (record { ready = t .beside-ready; high = (let b = last .high in let c = t .level in omega arith) }))
+            stands j (no e) (no f) a = stand′ j (omega arith)
 
-            last-work : work fq fr ws q l depth ≡ sizeAt ws (pointAt l (depth - 1) .link) + work fq fr ws q l (depth - 1)
-            last-work = ap (work fq fr ws q l) up
+        after : Goes fq fr ws q p nodes depth r → Again fq fr ws q marks₀ l depth marks′ l′ (r .depth)
+        after (gone e d) = subst (Again fq fr ws q marks₀ l depth marks′ l′) (sym d) (goes-away e)
+        after (splits t d) = let up : suc depth ≡ r .depth = omega (arith, d) in subst (Again fq fr ws q marks₀ l depth marks′ l′) up (comes-apart t)
 
-        -- none waits
-        pub ends : depth ≡ 0 → Searched fq fr ws q marks₀ marks′
-        unfolding waiting
-        ends z = searched marks₀ marks′ sofar′ marked′ (sym (append-nil sofar′) ∙ total′ [] (only-rest ∙ none-left))
-          where
-            none-left : waiting fq fr ws q l depth ≡ []
-            none-left = ap (waiting fq fr ws q l) z
+      pub turned : Went fq fr ws q marks marks′ (pointAt l (depth - 1)) depth r → Again fq fr ws q marks₀ l depth marks′ (set (set l (depth - 1) (r .beside)) depth (r .below)) (r .depth)
+      turned w = after (w .nodes) (w .marked) (w .goes)

@@ -3,7 +3,7 @@ use mathlib.Core.Path.{_≡_}
 use mathlib.Core.Logic.{_⊎_, _↔_}
 use mathlib.Core.List.{List, [], _∷_, _++_, List·Memᴰ}
 use mathlib.Core.Bool.{Bool, true, false}
-use Prim.Native.Nat.{ℕ, suc, _+_, _*_, _/_, _%_, _≤_, _<_}
+use Prim.Native.Nat.{ℕ, suc, _+_, _-_, _*_, _^_, _≤_, _<_}
 use lib.ListN.{length, getD, drop}
 use Rattle.bits.specs.Numbers.{has, Member, NumberSet}
 use Rattle.term.specs.Cells.{arity, blankOf, blankForm}
@@ -18,6 +18,7 @@ use Rattle.book.specs.Rules.{rule}
 use Rattle.book.specs.Memory.{view, Passing, rulesIn}
 use Rattle.questions.specs.declared.Point.{Point}
 use Rattle.questions.specs.declared.Ways.{Ways}
+use Rattle.questions.specs.declared.Points.{Points}
 use Rattle.questions.specs.Asking.{numbers}
 use Rattle.questions.specs.Walk.{Walk, reading, next, good}
 
@@ -120,15 +121,18 @@ besideOf p r = record { link = r .beside; skip = p .skip; place = p .place }
 abbrev pub belowOf : Ways → Point
 belowOf r = record { link = r .down; skip = r .skip; place = r .place }
 
--- What is found from the point on are these nodes, and what is found from those two points on. Both can be tried, there is less behind them, and
--- the child is a level deeper.
-pub record Left (fq fr : Bool) (ws question : List ℕ) (p : Point) (nodes : List ℕ) (r : Ways) : Type 0 where
-  pub gives : hitsAt fq fr ws question p ≡ nodes ++ (hitsAt fq fr ws question (belowOf r) ++ hitsAt fq fr ws question (besideOf p r))
-  pub fewer : sizeAt ws (r .down) + sizeAt ws (r .beside) < sizeAt ws (p .link)
-  pub deeper : heightAt ws (r .down) < heightAt ws (p .link)
-  pub level : heightAt ws (r .beside) ≤ heightAt ws (p .link)
-  pub below : Ready fq fr ws question (belowOf r)
-  pub beside : Ready fq fr ws question (besideOf p r)
+-- What is found from the point on are these nodes, and what is found from two other points on. Both can be tried, there is less behind them, and
+-- the one below is a level deeper.
+pub record Splits (fq fr : Bool) (ws question : List ℕ) (p : Point) (nodes : List ℕ) (below beside : Point) : Type 0 where
+  pub gives : hitsAt fq fr ws question p ≡ nodes ++ (hitsAt fq fr ws question below ++ hitsAt fq fr ws question beside)
+  pub fewer : sizeAt ws (below .link) + sizeAt ws (beside .link) < sizeAt ws (p .link)
+  pub deeper : heightAt ws (below .link) < heightAt ws (p .link)
+  pub level : heightAt ws (beside .link) ≤ heightAt ws (p .link)
+  pub below-ready : Ready fq fr ws question below
+  pub beside-ready : Ready fq fr ws question beside
+
+abbrev pub Left : Bool → Bool → (ws question : List ℕ) → Point → List ℕ → Ways → Type 0
+Left fq fr ws question p nodes r = Splits fq fr ws question p nodes (belowOf r) (besideOf p r)
 
 -- A node is passed: its arguments are to be skipped, and so many subterms more.
 pub record PassesNode (ws : List ℕ) (link left place : ℕ) (r : Ways) : Type 0 where
@@ -144,9 +148,32 @@ pub record Tried (fq fr : Bool) (ws question marks marks′ : List ℕ) (p : Poi
   pub marked : Marked ws marks marks′ nodes
   pub left : Left fq fr ws question p nodes r
 
--- The point that waits as one number.
-abbrev pub pointIn : ℕ → Point
-pointIn n = record { link = n / 65536; skip = n / 256 % 256; place = n % 256 }
+-- The last of so many points can be tried.
+pub record Steady (fq fr : Bool) (ws question marks : List ℕ) (p : Point) (depth : ℕ) : Type 0 where
+  pub ready : Ready fq fr ws question p
+  pub map : NumberSet marks
+  pub some : 0 < depth
+  pub deep : depth ≤ 34
+
+-- After a turn all that is found from the point on is marked, and it goes; or some, and two points stand for the rest.
+pub data Goes (fq fr : Bool) (ws question : List ℕ) (p : Point) (nodes : List ℕ) (depth : ℕ) (r : Points) : Type 0 where
+  gone : hitsAt fq fr ws question p ≡ nodes → r .depth ≡ depth - 1 → Goes fq fr ws question p nodes depth r
+  splits : Splits fq fr ws question p nodes (r .below) (r .beside) → r .depth ≡ depth + 1 → Goes fq fr ws question p nodes depth r
+
+pub record Went (fq fr : Bool) (ws question marks marks′ : List ℕ) (p : Point) (depth : ℕ) (r : Points) : Type 0 where
+  pub nodes : List ℕ
+  pub marked : Marked ws marks marks′ nodes
+  pub goes : Goes fq fr ws question p nodes depth r
+
+-- The point that the search begins with: the tree's first node, and the machine before all cells.
+pub record IsRoot (ws : List ℕ) (p : Point) : Type 0 where
+  pub words : (i : ℕ) → getD ws i 0 < 2 ^ 64
+  pub is : p ≡ record { link = firstOf (getD ws 72 0); skip = 0; place = 0 }
+
+-- It stands first on a list that is long enough.
+pub record Rooted (ws : List ℕ) (l : List Point) : Type 0 where
+  pub long : length l ≡ 35
+  pub root : IsRoot ws (getD l 0 (record { link = 0; skip = 0; place = 0 }))
 
 -- The rule with the number k answers, as the machine decides it.
 pub record Answering (fq fr : Bool) (ws question : List ℕ) (k : ℕ) : Type 0 where

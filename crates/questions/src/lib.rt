@@ -1,26 +1,27 @@
 // The four questions: one search over the book's tree.
 //
-// The point that is tried is at hand: a link, and where the machine stands before it. Others wait on a list, one a level. At a
-// node the machine takes one step; where it goes on, the node's first child is tried next, and its sibling waits. Where the
-// machine is done, the node and all its later siblings are rules that answer. Variants, instances, generalisations and
-// unifiables differ in two flags and in nothing else.
+// The points still to be tried stand on a list, one a level: a link, and where the machine stands before it. The last is taken
+// in hand. At a node the machine takes one step; where it goes on, the node's first child is tried next, and its sibling waits.
+// Where the machine is done, the node and all its later siblings are rules that answer. Variants, instances, generalisations
+// and unifiables differ in two flags and in nothing else.
 ghost use mathlib.Core.Path.{_≡_};
 ghost use Prim.Native.Nat.{_<_, _≤_};
 ghost use mathlib.Core.List.{[]};
-ghost use lib.ListN.{length, getD};
+ghost use lib.ListN.{length};
 ghost use Rattle.book.specs.Memory.{Passing};
 ghost use Rattle.book.specs.Promises.{IsTerm};
 ghost use Rattle.bits.specs.Numbers.{NumberSet, has};
-ghost use Rattle.tree.specs.Words.{cellOf, firstOf};
+ghost use Rattle.tree.specs.Words.{cellOf};
 ghost use Rattle.questions.specs.Asking.{numbers};
-ghost use Rattle.questions.specs.Promises.{Onwards, Begins, Sought, Decisive, LastWanted, Threaded, PassesNode, Numbered, Marked, siblings, Ready, Left, Tried, pointIn, Searched, Lists};
+ghost use Rattle.questions.specs.Promises.{Onwards, Begins, Sought, Decisive, LastWanted, Threaded, PassesNode, Numbered, Marked, siblings, Ready, Left, Tried, Steady, Went, IsRoot, Rooted, Searched, Lists};
 use term::machine;
 
-// A point to be tried: a link, the subterms of a rule still to skip there, and the place in the question.
+// A point still to be tried: a link, the subterms of a rule still to skip there, and the place in the question. It is small, since
+// each question makes a list of them.
 pub struct Point {
-    pub link: usize,
-    pub skip: usize,
-    pub place: usize,
+    pub link: u16,
+    pub skip: u16,
+    pub place: u16,
 }
 
 // What is left to be tried after a node: its sibling, where the machine stands as it did before; and its first child, with the
@@ -161,28 +162,29 @@ fn mark_rules(m: &[u64], marks: &mut [u64], link: usize)
     }
 }
 
-// The machine's step at the first node from the point on at which it may go on, where one cell is wanted.
+// The machine's step at the first node from the link on at which it may go on, where one cell is wanted.
 fn meet_node(
     m: &[u64],
     fills_question: bool,
     fills_rule: bool,
     question: &[u16],
-    p: Point,
+    link: usize,
+    place: usize,
     cell: u64,
 ) -> Ways
-    requires { ⌜ Ready «fills_question» «fills_rule» (now m) (now question) p ⌝ }
-    requires { ⌜ (p .skip ≤ 0) × (p .place < length (now question)) ⌝ }
-    requires { ⌜ Decisive «fills_question» (now question) (p .place) cell ⌝ }
-    requires { ⌜ (p .link ≡ 0 → ⊥) × (cell ≡ 65536 → ⊥) ⌝ }
-    ensures { λ r. ⌜ Left «fills_question» «fills_rule» (now (m .entry)) (now (question .entry)) p [] r ⌝ }
+    requires { ⌜ Ready «fills_question» «fills_rule» (now m) (now question) (record { link = link; skip = 0; place = place }) ⌝ }
+    requires { ⌜ place < length (now question) ⌝ }
+    requires { ⌜ Decisive «fills_question» (now question) place cell ⌝ }
+    requires { ⌜ (link ≡ 0 → ⊥) × (cell ≡ 65536 → ⊥) ⌝ }
+    ensures { λ r. ⌜ Left «fills_question» «fills_rule» (now (m .entry)) (now (question .entry)) (record { link = link; skip = 0; place = place }) [] r ⌝ }
 {
-    let x = sibling(m, cell, last_wanted(fills_rule, cell), p.link);
+    let x = sibling(m, cell, last_wanted(fills_rule, cell), link);
     if x == 0 {
         return nowhere();
     }
     let w = m[72 + x];
     let c = tree::cell_of(w) as u16;
-    let s = machine::meet(fills_question, fills_rule, question, c, p.place);
+    let s = machine::meet(fills_question, fills_rule, question, c, place);
     let beside = tree::next_of(w) as usize;
     if s.alive {
         return Ways {
@@ -208,95 +210,136 @@ fn try_point(
     fills_rule: bool,
     question: &[u16],
     marks: &mut [u64],
-    p: Point,
+    link: usize,
+    skip: usize,
+    place: usize,
 ) -> Ways
-    requires { ⌜ Ready «fills_question» «fills_rule» (now m) (now question) p ⌝ }
-    requires { ⌜ (p .link ≡ 0 → ⊥) ⌝ }
+    requires { ⌜ Ready «fills_question» «fills_rule» (now m) (now question) (record { link = link; skip = skip; place = place }) ⌝ }
+    requires { ⌜ (link ≡ 0 → ⊥) ⌝ }
     requires { ⌜ NumberSet (now marks) ⌝ }
-    ensures { λ r. ⌜ Tried «fills_question» «fills_rule» (now (m .entry)) (now (question .entry)) (now (marks .entry)) (now (marks .exit)) p r ⌝ }
+    ensures { λ r. ⌜ Tried «fills_question» «fills_rule» (now (m .entry)) (now (question .entry)) (now (marks .entry)) (now (marks .exit)) (record { link = link; skip = skip; place = place }) r ⌝ }
 {
-    if 0 < p.skip {
-        return pass_node(m, p.link, p.skip - 1, p.place);
+    if 0 < skip {
+        return pass_node(m, link, skip - 1, place);
     }
-    if question.len() <= p.place {
-        mark_rules(m, marks, p.link);
+    if question.len() <= place {
+        mark_rules(m, marks, link);
         return nowhere();
     }
-    let cell = wanted(fills_question, question, p.place);
+    let cell = wanted(fills_question, question, place);
     if cell == 65536 {
-        return pass_node(m, p.link, 0, p.place + 1);
+        return pass_node(m, link, 0, place + 1);
     }
-    meet_node(m, fills_question, fills_rule, question, p, cell)
+    meet_node(m, fills_question, fills_rule, question, link, place, cell)
 }
 
-// A point in one number.
-fn pack(link: usize, skip: usize, place: usize) -> u32
+// A point as it stands on the list.
+fn as_point(link: usize, skip: usize, place: usize) -> Point
     requires { ⌜ (link ≤ 4608) × ((skip ≤ 231) × (place ≤ 32)) ⌝ }
-    ensures { λ r. ⌜ pointIn r ≡ record { link = link; skip = skip; place = place } ⌝ }
+    ensures { λ r. ⌜ r ≡ record { link = link; skip = skip; place = place } ⌝ }
 {
-    (link * 65536 + skip * 256 + place) as u32
-}
-
-fn unpack(n: u32) -> Point
-    ensures { λ r. ⌜ r ≡ pointIn n ⌝ }
-{
-    let k = n as usize;
     Point {
-        link: k / 65536,
-        skip: k / 256 % 256,
-        place: k % 256,
+        link: link as u16,
+        skip: skip as u16,
+        place: place as u16,
     }
 }
 
-// Marks the numbers of the rules that answer, from the tree's first node on. The points that wait stand on the list that is lent.
+// What the list becomes after a turn: the point in the place of the one that was tried, the point above it, and how many stand.
+pub struct Points {
+    pub beside: Point,
+    pub below: Point,
+    pub depth: usize,
+}
+
+// A turn of the search: the point p, the last of `depth`, is tried, and then the sibling or the child that it leaves, until it
+// leaves both or neither. Till then the list need not be touched.
+fn turn(
+    m: &[u64],
+    fills_question: bool,
+    fills_rule: bool,
+    question: &[u16],
+    marks: &mut [u64],
+    p: Point,
+    depth: usize,
+) -> Points
+    requires { ⌜ Steady «fills_question» «fills_rule» (now m) (now question) (now marks) p depth ⌝ }
+    ensures { λ r. ⌜ Went «fills_question» «fills_rule» (now (m .entry)) (now (question .entry)) (now (marks .entry)) (now (marks .exit)) p depth r ⌝ }
+{
+    let mut link = p.link as usize;
+    let mut skip = p.skip as usize;
+    let mut place = p.place as usize;
+    while link != 0 {
+        let t = try_point(
+            m,
+            fills_question,
+            fills_rule,
+            question,
+            marks,
+            link,
+            skip,
+            place,
+        );
+        if t.down == 0 {
+            link = t.beside;
+            continue;
+        }
+        if t.beside != 0 {
+            return Points {
+                beside: as_point(t.beside, skip, place),
+                below: as_point(t.down, t.skip, t.place),
+                depth: depth + 1,
+            };
+        }
+        link = t.down;
+        skip = t.skip;
+        place = t.place;
+    }
+    Points {
+        beside: p,
+        below: p,
+        depth: depth - 1,
+    }
+}
+
+// The point that the search begins with.
+fn root(m: &[u64]) -> Point
+    requires { ⌜ Passing (now m) ⌝ }
+    ensures { λ r. ⌜ IsRoot (now (m .entry)) r ⌝ }
+{
+    let first = tree::first_of(m[72]) as u16;
+    Point {
+        link: first,
+        skip: 0,
+        place: 0,
+    }
+}
+
+// Marks the numbers of the rules that answer. The points still to be tried stand on the list that is lent, the root first.
 fn search(
     m: &[u64],
     fills_question: bool,
     fills_rule: bool,
     question: &[u16],
     marks: &mut [u64],
-    list: &mut [u32],
-    first: usize,
+    list: &mut [Point],
 )
-    requires { ⌜ Passing (now m) × (IsTerm (now question) × NumberSet (now marks)) ⌝ }
-    requires { ⌜ length (now list) ≡ 33 ⌝ }
-    requires { ⌜ first ≡ firstOf (getD (now m) 72 0) ⌝ }
-    requires { ⌜ (first ≡ 0 → ⊥) ⌝ }
+    requires { ⌜ Passing (now m) × (IsTerm (now question) × (NumberSet (now marks) × Rooted (now m) (now list))) ⌝ }
     ensures { λ _. ⌜ Searched «fills_question» «fills_rule» (now (m .entry)) (now (question .entry)) (now (marks .entry)) (now (marks .exit)) ⌝ }
 {
-    let mut depth: usize = 0;
-    let mut p = Point {
-        link: first,
-        skip: 0,
-        place: 0,
-    };
-    loop {
-        let t = try_point(m, fills_question, fills_rule, question, marks, p);
-        if t.down != 0 {
-            if t.beside != 0 {
-                list[depth] = pack(t.beside, p.skip, p.place);
-                depth += 1;
-            }
-            p = Point {
-                link: t.down,
-                skip: t.skip,
-                place: t.place,
-            };
-            continue;
-        }
-        if t.beside != 0 {
-            p.link = t.beside;
-            continue;
-        }
-        if depth == 0 {
-            return;
-        }
-        depth -= 1;
-        p = unpack(list[depth]);
+    let mut depth: usize = 1;
+    while 0 < depth {
+        let k = depth - 1;
+        let p = list[k];
+        let t = turn(m, fills_question, fills_rule, question, marks, p, depth);
+        list[k] = t.beside;
+        list[depth] = t.below;
+        depth = t.depth;
     }
 }
 
-// The same with the list made here, at the length that is always enough.
+// The same with the list made here, at the length that is always enough. All its points but the first are zeros, which cost
+// less to write than copies of the root.
 pub fn mark_answers(
     m: &[u64],
     fills_question: bool,
@@ -309,19 +352,15 @@ pub fn mark_answers(
     requires { ⌜ NumberSet (now marks) ⌝ }
     ensures { λ _. ⌜ Searched «fills_question» «fills_rule» (now (m .entry)) (now (question .entry)) (now (marks .entry)) (now (marks .exit)) ⌝ }
 {
-    let first = tree::first_of(m[72]) as usize;
-    if first != 0 {
-        let mut list: [u32; 33] = [0; 33];
-        search(
-            m,
-            fills_question,
-            fills_rule,
-            question,
-            marks,
-            &mut list,
-            first,
-        );
-    }
+    let first = root(m);
+    let none = Point {
+        link: 0,
+        skip: 0,
+        place: 0,
+    };
+    let mut list = [none; 35];
+    list[0] = first;
+    search(m, fills_question, fills_rule, question, marks, &mut list);
 }
 
 // How many numbers are marked.

@@ -4,6 +4,7 @@ use mathlib.Core.Path.{_≡_, refl, sym, _∙_, subst}
 use Prim.Native.Nat.{ℕ, _+_, _^_, _≤_, _<_}
 use native.Mathlib.Omega.{arith}
 use lib.ListN.{length, getD}
+use Rattle.questions.specs.declared.Point.{Point}
 use Rattle.questions.specs.Promises.{Skips, Left}
 use Rattle.questions.proofs.Threads.{in-tree}
 use Rattle.questions.proofs.Seeking.{seeking}
@@ -15,18 +16,21 @@ module _ (k : tie.After-sibling) where
   abbrev start : tie.Start
   start = k .before .before .before .before
 
+  abbrev from : Point
+  from = record { link = start .args .link; skip = 0; place = start .args .place }
+
   words : (i : ℕ) → getD (start .args .m .now) i 0 < 2 ^ 64
   words i = k .before .before .before .shared-slice-known .given i .fits
 
-  skips : Skips (start .args .fills-question) (start .args .fills-rule) (start .args .m .now) (start .args .question .now) (start .args .p .place) (start .args .p .link) (k .sibling .result)
+  skips : Skips (start .args .fills-question) (start .args .fills-rule) (start .args .m .now) (start .args .question .now) (start .args .place) (start .args .link) (k .sibling .result)
   skips =
       let s = start .args in
       let h = start .pre in
-      seeking (s .fills-question) (s .fills-rule) (s .m .now) (s .question .now) (s .p .place) (s .p .link) (s .cell) (k .before .last-wanted .result) (k .sibling .result) words (h .0 .threaded) (h .1 .1 .1 .1) (h .1 .1 .0) (k .before .last-wanted .ensures) (k .sibling .ensures)
+      seeking (s .fills-question) (s .fills-rule) (s .m .now) (s .question .now) (s .place) (s .link) (s .cell) (k .before .last-wanted .result) (k .sibling .result) words (h .0 .threaded) (h .1 .1 .1 .1) (h .1 .1 .0) (k .before .last-wanted .ensures) (k .sibling .ensures)
 
   low : ¬ (k .sibling .result ≡ 0) → (k .sibling .result ≤ 4608) × (length (start .args .m .now) ≡ 12618)
   low nz =
-      let t = skipped (start .args .fills-question) (start .args .fills-rule) (start .args .m .now) (start .args .question .now) words (start .args .p) (start .pre .0) (start .pre .1 .0 .0) skips .ready .threaded in
+      let t = skipped (start .args .fills-question) (start .args .fills-rule) (start .args .m .now) (start .args .question .now) words from (start .pre .0) (omega arith) skips .ready .threaded in
       (in-tree (start .args .m .now) (k .sibling .result) t nz, t .passing .size)
 
 returns : tie.Need-returns
@@ -34,8 +38,8 @@ returns c =
     let k = c .before .before in
     let s = start k .args in
     let h = start k .pre in
-    subst (Left (s .fills-question) (s .fills-rule) (s .m .now) (s .question .now) (s .p) _) (sym (c .nowhere .ensures))
-    (meets-none (s .fills-question) (s .fills-rule) (s .m .now) (s .question .now) (words k) (s .p) (h .0) (h .1 .1 .1 .0) (h .1 .0 .0) (h .1 .0 .1) (k .sibling .result) (skips k) (c .before .if1 .taken))
+    subst (Left (s .fills-question) (s .fills-rule) (s .m .now) (s .question .now) (from k) _) (sym (c .nowhere .ensures))
+    (meets-none (s .fills-question) (s .fills-rule) (s .m .now) (s .question .now) (words k) (from k) (h .0) (h .1 .1 .1 .0) (omega arith) (h .1 .0) (k .sibling .result) (skips k) (c .before .if1 .taken))
 
 returns-2 : tie.Need-returns-2
 returns-2 c =
@@ -44,7 +48,7 @@ returns-2 c =
     let k = e .before in
     let s = start k .args in
     let h = start k .pre in
-    meets-on (s .fills-question) (s .fills-rule) (s .m .now) (s .question .now) (words k) (s .p) (h .0) (h .1 .1 .1 .0) (h .1 .0 .0) (h .1 .0 .1) (k .sibling .result) (skips k) (e .if1 .left)
+    meets-on (s .fills-question) (s .fills-rule) (s .m .now) (s .question .now) (words k) (from k) (h .0) (h .1 .1 .1 .0) (omega arith) (h .1 .0) (k .sibling .result) (skips k) (e .if1 .left)
     (a .before .cell-of .result) (a .before .cell-of .ensures) _ _ _ (a .meet .ensures) (c .before .before .next-of .result) (c .before .before .next-of .ensures) (c .before .if2 .taken) (c .first-of .result) (c .first-of .ensures)
 
 returns-3 : tie.Need-returns-3
@@ -54,7 +58,7 @@ returns-3 c =
     let k = e .before in
     let s = start k .args in
     let h = start k .pre in
-    meets-not (s .fills-question) (s .fills-rule) (s .m .now) (s .question .now) (words k) (s .p) (h .0) (h .1 .1 .1 .0) (h .1 .0 .0) (h .1 .0 .1) (k .sibling .result) (skips k) (e .if1 .left)
+    meets-not (s .fills-question) (s .fills-rule) (s .m .now) (s .question .now) (words k) (from k) (h .0) (h .1 .1 .1 .0) (omega arith) (h .1 .0) (k .sibling .result) (skips k) (e .if1 .left)
     (a .before .cell-of .result) (a .before .cell-of .ensures) _ _ _ (a .meet .ensures) (c .before .next-of .result) (c .before .next-of .ensures) (c .if2 .left)
 
 pub meet-node-spec : {M : Type 1} → statement M
