@@ -5,11 +5,11 @@ use mathlib.Core.Bool.{Bool, true, false}
 use Prim.Native.Nat.{ℕ, zero, suc, _+_, _-_, _≤_, _<_}
 use native.Mathlib.Numerals.{add-one}
 use native.Mathlib.Omega.{arith}
-use lib.Dec.{ltb, leb}
+use lib.Dec.{ltb}
 use lib.ListN.{length, length-map, getD, drop, drop-of-length-le}
-use borrow.Author.Tests.{lt-ltb, le-ltb, eq-eqb, ne-eqb, ltb-true, ltb-false, leb-true, leb-false}
+use borrow.Author.Tests.{lt-ltb, le-ltb, eq-eqb, ne-eqb, ltb-true, ltb-false}
 use Rattle.term.specs.Cells.{Row, Blank, star, symb, arity, pickCell, blankOf, blankForm}
-use Rattle.term.specs.Machine.{State, failed, at, past, step, run, done}
+use Rattle.term.specs.Machine.{at, past, step}
 use Rattle.term.specs.Steps.{spot, Passed, Stepped}
 
 pub is-symbol : (c : ℕ) → c < 32768 → blankOf c ≡ symb c
@@ -47,21 +47,6 @@ pub past-end : (q : List ℕ) (i w k p : ℕ) → length q ≤ i → i ≤ lengt
 past-end q i w k p e l h = record { inside = l; is = sym h ∙ rw (at-end q i e) (past-nil w) }
 
 module _ (fq fr : Bool) (q : List ℕ) (c : ℕ) where
-  pub skipping : (k p a : ℕ) → 0 < k → p ≤ length q → (a ≡ arity (blankOf c)) × (a ≤ 7) → Stepped fq fr q c k p true (k - 1 + a) p
-  skipping k p a h l e = record { inside = l; few = omega (arith, e .1); is = go k h }
-    where
-      go : (k : ℕ) → 0 < k → spot q true (k - 1 + a) p ≡ step fq fr (blankOf c) (spot q true k p)
-      go zero h = absurd (omega arith)
-      go (suc k) h = ap (λ (x : ℕ). at x (drop p (blankForm q))) (omega (arith, e .0))
-
-  pub nothing-left : (k p : ℕ) → k ≤ 0 → length q ≤ p → Stepped fq fr q c k p false 0 0
-  nothing-left zero p e h = record { inside = omega arith; few = omega arith; is = rw (at-end q p h) }
-  nothing-left (suc k) p e h = absurd (omega arith)
-
-  pub at-zero : (k p : ℕ) (alive : Bool) (k′ p′ : ℕ) → k ≤ 0 → Stepped fq fr q c 0 p alive k′ p′ → Stepped fq fr q c k p alive k′ p′
-  at-zero zero p alive k′ p′ e s = s
-  at-zero (suc k) p alive k′ p′ e s = absurd (omega arith)
-
   -- the rule's cell c meets the question's cell at p
   module _ (p : ℕ) (h : p < length q) where
     here : step fq fr (blankOf c) (spot q true 0 p) ≡ step fq fr (blankOf c) (at 0 (blankOf (getD q p 0) ∷ drop (p + 1) (blankForm q)))
@@ -99,38 +84,3 @@ module _ (fq fr : Bool) (q : List ℕ) (c : ℕ) where
         go : (b : Bool) → ltb c 32768 ≡ b → Stepped fq fr q c 0 p true 0 (p + 1)
         go true t = same-symbol (omega (arith, ltb-true c 32768 t)) e
         go false t = let n = ltb-false c 32768 t in blank-blank (omega arith) n
-
--- where the machine stands, a rule that ends here has answered
-pub done-skip : (q : List ℕ) (k p : ℕ) → 0 < k → false ≡ done (spot q true k p)
-done-skip q zero p h = absurd (omega arith)
-done-skip q (suc k) p h = refl
-
-pub done-at : (q : List ℕ) (k p : ℕ) → k ≤ 0 → leb (length q) p ≡ done (spot q true k p)
-done-at q zero p e = go (leb (length q) p) refl
-  where
-    go : (b : Bool) → leb (length q) p ≡ b → leb (length q) p ≡ done (spot q true 0 p)
-    go true t = t ∙ rw (at-end q p (leb-true (length q) p t))
-    go false t = t ∙ rw (cell-here q p (leb-false (length q) p t))
-done-at q (suc k) p e = absurd (omega arith)
-
--- a whole rule, cell by cell
-run-failed : (fq fr : Bool) (r : Row Blank) → done (run fq fr failed r) ≡ false
-run-failed fq fr [] = refl
-run-failed fq fr (c ∷ r) = run-failed fq fr r
-
-module _ (fq fr : Bool) (q r : List ℕ) (i k p : ℕ) (h : i < length r) (alive : Bool) (k′ p′ : ℕ) (s : Stepped fq fr q (getD r i 0) k p alive k′ p′) where
-  one-cell : run fq fr (spot q true k p) (drop i (blankForm r)) ≡ run fq fr (spot q alive k′ p′) (drop (suc i) (blankForm r))
-  one-cell = rw (cell-here r i h, s .is)
-
-  pub run-on : alive ≡ true → run fq fr (spot q true k′ p′) (drop (i + 1) (blankForm r)) ≡ run fq fr (spot q true k p) (drop i (blankForm r))
-  run-on e = rw (add-one i) (sym (one-cell ∙ rw e))
-
-  pub run-lost : (t : State) → alive ≡ false → run fq fr (spot q true k p) (drop i (blankForm r)) ≡ t → false ≡ done t
-  run-lost t e f =
-      let dead : run fq fr (spot q alive k′ p′) (drop (suc i) (blankForm r)) ≡ run fq fr failed (drop (suc i) (blankForm r)) = rw e in
-      sym (ap done (sym f ∙ one-cell ∙ dead) ∙ run-failed fq fr (drop (suc i) (blankForm r)))
-
-pub run-end : (fq fr : Bool) (q r : List ℕ) (i k p : ℕ) (t : State) → length r ≤ i → run fq fr (spot q true k p) (drop i (blankForm r)) ≡ t → spot q true k p ≡ t
-run-end fq fr q r i k p t h e =
-    let same : spot q true k p ≡ run fq fr (spot q true k p) (drop i (blankForm r)) = rw (at-end r i h) in
-    same ∙ e
