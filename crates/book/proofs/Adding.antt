@@ -26,7 +26,7 @@ use Rattle.tree.specs.Promises.{Sound, Planted, Hangable, Hung}
 use Rattle.tree.specs.Partly.{Partly, grown-rules}
 use Rattle.tree.specs.Plant.{planted-partly, planted-full, planted-fits, no-rule}
 use Rattle.tree.specs.Leaves.{Leaf, bases, ends, Hanging}
-use Rattle.book.specs.Rules.{Held, nothing, rule, Rules, isHeld, pickHeld, withRule, terms, ruleCount, nodesOf, judged, pickAdded}
+use Rattle.book.specs.Rules.{Held, nothing, rule, isHeld, pickHeld, withRule, terms, ruleCount, nodesOf, judged, pickAdded}
 use Rattle.book.specs.Rules as rules
 use Rattle.book.specs.Gathered.{Standing, terms-standing, rule-inj, not-rule}
 use Rattle.book.specs.Memory.{View, view, taken, number, term, form, formOf, leaf, leaves, Passing, rulesIn}

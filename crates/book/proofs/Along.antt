@@ -1,23 +1,23 @@
 -- Along the rules below a whole form: where all is found a rule comes next and nothing hangs below it, and each one that is come to is one less.
 use mathlib.Core.Path.{_≡_, refl, sym, ap, _∙_, subst}
-use mathlib.Core.List.{List, [], _∷_, map, Memᴰ·map}
+use mathlib.Core.List.{List, _∷_, Memᴰ·map}
 use mathlib.Core.Bool.{Bool, true, false}
-use Prim.Native.Nat.{ℕ, zero, suc, _+_, _-_, _*_, _/_, _%_, _≤_, _<_}
+use Prim.Native.Nat.{ℕ, zero, suc, _+_, _-_, _%_, _≤_, _<_}
 use native.Mathlib.Omega.{arith}
 use native.Mathlib.Decide.{decLt}
 use lib.ListN.{length, getD, take}
 use Rattle.term.specs.Counting.{true≢false}
-use Rattle.tree.specs.Shape.{Shape, Place, child, after, Used, to, owner, floor, Fits}
+use Rattle.tree.specs.Shape.{after, Used, to, Fits}
 use Rattle.tree.specs.Rows.{end-childless}
 use Rattle.tree.specs.Leaves.{endOf, rows-free}
 use Rattle.tree.specs.Tally.{tally, marked}
 use Rattle.tree.specs.Tallies.{tally-more}
 use Rattle.tree.specs.Words.{cellOf, parentOf, firstOf, nextOf, word}
-use Rattle.tree.specs.Stops.{Stop, Standing, go-along}
-use Rattle.book.specs.Memory.{View, view, leaf, taken}
+use Rattle.tree.specs.Stops.{Standing, go-along}
+use Rattle.book.specs.Memory.{view, leaf, taken}
 use Rattle.book.specs.Holding.{hanging, taken-leaf}
 use Rattle.book.specs.Walk.{wants, Hangs, Told, Bare, ended-right}
-use Rattle.book.specs.State.{AtPlace, Found, Sizes, RuleAt, RuleDecided, AskedRule, RuleEntered, Over, Ruled}
+use Rattle.book.specs.State.{AtPlace, Found, Sizes, RuleAt, RuleDecided, AskedRule, RuleEntered, Ruled}
 use Rattle.book.proofs.Looking.{nodes-low, rule-number}
 use Rattle.book.proofs.Downing.{node-word, meets, no-dead-end, kept-counts, wanted-is}
 use Rattle.book.proofs.Ruling.{rule-hangs, hangs-rule}

@@ -1,25 +1,23 @@
 -- One step down keeps what the walk stands on; and where all is found that the check asks for, the node that the walk comes to is as asked.
 use mathlib.Core.Path.{_≡_, refl, sym, ap, _∙_, subst}
 use mathlib.Core.Logic.{_⊎_, inl, inr}
-use mathlib.Core.List.{List, [], _∷_, _++_, map, reverse, append-nil, List·Memᴰ, List·Memᴰ·head, List·Memᴰ·tail, List·Memᴰ·cases-cons, List·Memᴰ·not-nil}
+use mathlib.Core.List.{List, [], _∷_, _++_, map, List·Memᴰ, List·Memᴰ·head, List·Memᴰ·tail, List·Memᴰ·cases-cons}
 use mathlib.Core.Bool.{Bool, true, false}
 use Prim.Native.Nat.{ℕ, zero, suc, _+_, _-_, _*_, _/_, _%_, _≤_, _<_}
 use native.Mathlib.Omega.{arith}
 use native.Mathlib.Decide.{ℕ-discrete, decLt}
-use native.Mathlib.Numerals.{add-one}
 use lib.ListN.{length, getD, set, take, length-set}
 use lib.Seq.{getD-set-same, getD-set-other, getD-take}
-use Rattle.tree.specs.Shape.{Shape, Place, child, after, Used, to, owner, floor, Fits, Up, down}
+use Rattle.tree.specs.Shape.{Shape, child, to, owner, floor, Fits, Up, down}
 use Rattle.term.specs.Counting.{true≢false}
 use Rattle.tree.specs.Rows.{up-same}
 use Rattle.tree.specs.Tally.{tally, marked}
 use Rattle.tree.specs.Tallies.{tally-more}
 use Rattle.tree.specs.Words.{cellOf, parentOf, firstOf, nextOf, word, Node}
-use Rattle.tree.specs.Promises.{Marked}
-use Rattle.tree.specs.Down.{Ended, fresh, known-valid}
+use Rattle.tree.specs.Down.{fresh, known-valid}
 use Rattle.tree.specs.Stops.{Stop, stop, beside, along-up, along-few, Standing, go-down, go-last}
 use Rattle.book.specs.Memory.{View, view}
-use Rattle.book.specs.Walk.{wants, behind, Inner, Hangs, Told, Bare, whole-row}
+use Rattle.book.specs.Walk.{wants, Told, Bare, whole-row}
 use Rattle.book.specs.State.{blanks, counts, numbered, wordOf, Kept, none, more, Stacked, Low, AtPlace, Found, Sizes, Asked, Entered, Pushed, Downed}
 use Rattle.book.specs.State as state
 use Rattle.book.proofs.Looking.{nodes-low}

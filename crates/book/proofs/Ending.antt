@@ -1,24 +1,24 @@
 -- The walk's first place, its way back to a stop, and its end: where none is left all is found, and where all is found none is left.
 use mathlib.Core.Path.{_≡_, refl, sym, ap, _∙_, subst}
-use mathlib.Core.List.{List, [], _∷_, _++_, map, List·Memᴰ, Memᴰ·append-right, List·Memᴰ·tail, List·Memᴰ·not-nil}
+use mathlib.Core.List.{List, [], _∷_, _++_, Memᴰ·append-right, List·Memᴰ·tail, List·Memᴰ·not-nil}
 use mathlib.Core.Bool.{Bool, true, false}
-use Prim.Native.Nat.{ℕ, zero, suc, _+_, _-_, _≤_, _<_}
+use Prim.Native.Nat.{ℕ, suc, _+_, _-_, _≤_, _<_}
 use native.Mathlib.Omega.{arith}
-use lib.ListN.{length, getD, set, take, drop, length-take, replicate, length-append, length-replicate}
+use lib.ListN.{length, getD, set, take, length-take, replicate, length-append, length-replicate}
 use native.Mathlib.Decide.{ℕ-discrete}
 use lib.Seq.{getD-take, getD-set-same, getD-set-other, ext-getD}
 use Rattle.bits.specs.Packed.{bits}
 use Rattle.term.specs.Counting.{true≢false}
-use Rattle.tree.specs.Shape.{child, after, Used, to}
-use Rattle.tree.specs.Tally.{tally, marked}
+use Rattle.tree.specs.Shape.{child, after, to}
+use Rattle.tree.specs.Tally.{marked}
 use Rattle.tree.specs.Tallies.{same-bits, no-mark}
-use Rattle.tree.specs.Words.{cellOf, parentOf, firstOf, nextOf, word, Node}
+use Rattle.tree.specs.Words.{cellOf, parentOf, firstOf, nextOf, word}
 use Rattle.tree.specs.Down.{Walking, ended, all-seen}
-use Rattle.tree.specs.Stops.{Stop, stop, Standing, set-off, go-end, go-back, Back}
-use Rattle.book.specs.Memory.{View, view, Passing}
+use Rattle.tree.specs.Stops.{Stop, stop, Standing, set-off, go-end, go-back}
+use Rattle.book.specs.Memory.{view, Passing}
 use Rattle.book.specs.Promises.{Checks}
 use Rattle.book.specs.Walk.{Told, Bare, ended-right, right-ended}
-use Rattle.book.specs.State.{Kept, none, more, Stacked, Low, AtPlace, Found, Sizes, Decides, Downed, Over, Ruled, Popped, Clear}
+use Rattle.book.specs.State.{Kept, none, more, Stacked, Low, AtPlace, Found, Sizes, Decides, Over, Popped, Clear}
 use Rattle.book.proofs.Looking.{inside, nodes-low}
 use Rattle.book.proofs.Downing.{kept-back}
 

@@ -1,25 +1,24 @@
 -- A rule below the way: its record is compared with the way cell by cell, and each rule that the walk comes to is one step along.
 use mathlib.Core.Path.{_≡_, refl, sym, ap, _∙_, subst}
-use mathlib.Core.Logic.{_⊎_, inl, inr}
-use mathlib.Core.List.{List, [], _∷_, _++_, map, reverse, reverse-cons, List·Memᴰ, List·Memᴰ·head, List·Memᴰ·tail}
+use mathlib.Core.List.{List, [], _∷_, _++_, map, reverse, reverse-cons, List·Memᴰ·head, List·Memᴰ·tail}
 use mathlib.Core.Bool.{Bool, true, false}
-use Prim.Native.Nat.{ℕ, zero, suc, _+_, _-_, _*_, _/_, _%_, _≤_, _<_}
+use Prim.Native.Nat.{ℕ, zero, suc, _+_, _-_, _*_, _%_, _≤_, _<_}
 use native.Mathlib.Omega.{arith}
-use native.Mathlib.Decide.{ℕ-discrete, decLt}
+use native.Mathlib.Decide.{ℕ-discrete}
 use borrow.Author.Tests.{lt-ltb, le-ltb}
 use lib.Dec.{ltb}
-use lib.ListN.{length, getD, set, take, drop, length-take, length-map, length-append, length-reverse, List·getD-append}
+use lib.ListN.{length, getD, take, drop, length-take, length-map, length-reverse, List·getD-append}
 use lib.Seq.{ext-getD, getD-take, getD-append-add}
 use Rattle.bits.specs.Packed.{fields, Zeros}
 use Rattle.term.specs.Counting.{true≢false}
 use Rattle.term.specs.Reading.{readTerm}
 use Rattle.term.specs.declared.reading.Reading.the-variants.{Whole}
 use Rattle.term.specs.Whole.{whole-term}
-use Rattle.book.specs.Memory.{View, view, number, term, form, formOf, blankNumber, Recorded}
+use Rattle.book.specs.Memory.{view, number, term, form, blankNumber}
 use Rattle.book.specs.Forms.{Side, symbol, variable, side}
 use Rattle.tree.specs.Words.{cellOf}
 use Rattle.book.specs.Promises.{IsWhole}
-use Rattle.book.specs.Walk.{wants, Hangs, Told, Bare}
+use Rattle.book.specs.Walk.{Hangs}
 use Rattle.book.specs.State.{blanks, pickCell, numbered, wordOf, Kept, none, more, Low, TermOf, Decides, TermDecided, RuleAt, RuleDecided}
 use Rattle.book.proofs.Downing.{blanks-low}
 use Rattle.book.proofs.Looking.{rule-number}

@@ -1,16 +1,15 @@
 -- The most general term of a form is read as a whole term: its blanks are the variables 0, 1, 2 .., each new where it stands.
-use mathlib.Core.Path.{_≡_, refl, sym, ap, ap₂, _∙_, subst}
-use mathlib.Core.List.{List, [], _∷_, _++_, map, reverse, reverse-cons, append-assoc, List·Memᴰ·head, List·Memᴰ·tail}
+use mathlib.Core.Path.{_≡_, refl, sym, ap, ap₂, _∙_}
+use mathlib.Core.List.{List, [], _∷_, _++_, reverse, reverse-cons, append-assoc, List·Memᴰ·head, List·Memᴰ·tail}
 use mathlib.Core.Bool.{Bool, true, false}
-use Prim.Native.Nat.{ℕ, zero, suc, _+_, _-_, _*_, _/_, _%_, _≤_, _<_}
+use Prim.Native.Nat.{ℕ, zero, suc, _+_, _-_, _/_, _%_, _≤_}
 use native.Mathlib.Omega.{arith}
 use borrow.Author.Tests.{ltb-true, ltb-false, le-ltb, lt-leb}
-use lib.Dec.{ltb, leb}
+use lib.Dec.{ltb}
 use lib.ListN.{length}
-use Rattle.term.specs.Reading.{pickTaken, variable, takes, goOn, readFrom, readTerm}
+use Rattle.term.specs.Reading.{variable, takes, goOn, readFrom, readTerm}
 use Rattle.term.specs.declared.reading.Taken.{Taken}
 use Rattle.term.specs.declared.reading.Taken.the-variants.{Wants}
-use Rattle.term.specs.declared.reading.Reading.{Reading}
 use Rattle.term.specs.declared.reading.Reading.the-variants.{Whole}
 use Rattle.book.specs.Walk.{wants}
 use Rattle.book.specs.State.{blanks, pickCell, numbered, Low}

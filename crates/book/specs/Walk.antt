@@ -1,18 +1,18 @@
 -- What one walk down from the root finds of every node is all that the check asks: a rule's row is that of its record, a node's row wants more
 -- cells, and only a rule has nothing below it.
 use mathlib.Core.Path.{_≡_, refl, sym, ap, _∙_, subst}
-use mathlib.Core.Logic.{_⊎_, inl, inr, _↔_}
+use mathlib.Core.Logic.{_⊎_, inl, inr}
 use mathlib.Core.List.{List, [], _∷_, _++_, map, reverse, reverse-cons, reverse-append, reverse-reverse, append-assoc, append-nil, List·Memᴰ, List·Memᴰ·head, List·Memᴰ·tail, List·Memᴰ·cases-cons, List·Memᴰ·not-nil, Memᴰ·of-map, Memᴰ·append-left, Memᴰ·append-right}
-use mathlib.Core.Bool.{Bool, true, false}
+use mathlib.Core.Bool.{true}
 use Prim.Native.Nat.{ℕ, zero, suc, _+_, _-_, _/_, _%_, _≤_, _<_}
 use native.Mathlib.Omega.{arith}
 use native.Mathlib.Decide.{decLt}
-use lib.ListN.{length, take, length-take, length-map, length-append, length-reverse}
-use Rattle.term.specs.Cells.{Blank, star, Row, Terms, arity, blankOf, blankForm}
+use lib.ListN.{length, length-take, length-map, length-append, length-reverse}
+use Rattle.term.specs.Cells.{Terms, arity, blankOf, blankForm}
 use Rattle.term.specs.Beginnings.{Begins}
 use Rattle.term.specs.Preorder.{recount, open-row, empty-none}
 use Rattle.term.specs.Whole.{whole-term}
-use Rattle.tree.specs.Shape.{Shape, Place, child, after, Used, Valid, to, Up, top, down, On, here, above, End, Covered, Passes, Tree}
+use Rattle.tree.specs.Shape.{Shape, Place, child, after, Used, Valid, to, Up, down, On, here, above, End, Covered, Tree}
 use Rattle.tree.specs.Basics.{up-used}
 use Rattle.tree.specs.Order.{childless}
 use Rattle.tree.specs.Rows.{up-same, passes-tree}

@@ -11,7 +11,7 @@ use Rattle.tree.specs.Promises.{Further}
 use Rattle.book.specs.Memory.{view}
 use Rattle.questions.specs.Promises.{start, Begins, Threaded}
 use Rattle.questions.proofs.Threads.{in-tree}
-use Rattle.questions.proofs.Leaps.{Leapt, leaps, up-to-it}
+use Rattle.questions.proofs.Leaps.{leaps, up-to-it}
 use Rattle.questions.proofs.leap.Statement.{statement}
 use Rattle.questions.proofs.leap.Tie as tie
 

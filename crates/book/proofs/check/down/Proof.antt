@@ -1,5 +1,4 @@
 -- Node by node: a step that is refused is one that no memory which passes refuses, and each step is one level lower.
-use mathlib.Core.Path.{refl}
 use Prim.Native.Nat.{_-_}
 use native.Mathlib.Omega.{arith}
 use borrow.Author.Needs.{needs}

@@ -1,5 +1,5 @@
 -- What is asked of the rule is tested one by one; the last test takes it.
-use mathlib.Core.Path.{refl, sym, ap, _∙_}
+use mathlib.Core.Path.{refl, _∙_}
 use native.Mathlib.Omega.{arith}
 use borrow.Author.Tests.{not-true, not-false}
 use Rattle.book.proofs.Coming.{rule-refused, rule-not-come, rule-enters}

@@ -1,5 +1,4 @@
 -- Words that are all zeros have no bit, and others have one.
-use mathlib.Core.Path.{refl}
 use borrow.Author.Needs.{needs}
 use Rattle.book.proofs.Ending.{clear-yes, clear-no}
 use Rattle.book.proofs.check.is_clear.Statement.{statement}

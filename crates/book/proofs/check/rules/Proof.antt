@@ -1,6 +1,5 @@
 use borrow.Author.Needs.{needs}
 -- Rule by rule; each that is come to is one less of those left.
-use mathlib.Core.Path.{sym, _∙_}
 use Prim.Native.Nat.{_-_}
 use native.Mathlib.Omega.{arith}
 use borrow.Author.Tests.{not-true, not-false}
