@@ -1,12 +1,12 @@
 -- What a node leaves to be tried: the trie at its link opens to what is below it and what is beside it.
 use mathlib.Core.Path.{_≡_, refl, sym, ap, ap₂, _∙_, subst}
-use mathlib.Core.List.{List, [], _∷_, _++_, append-nil, List·Memᴰ, List·Memᴰ·not-nil, Memᴰ·append-left, Memᴰ·append-right}
+use mathlib.Core.List.{List, [], _++_, append-nil, List·Memᴰ, List·Memᴰ·not-nil, Memᴰ·append-left, Memᴰ·append-right}
 use mathlib.Core.Bool.{Bool, true, false}
-use Prim.Native.Nat.{ℕ, suc, zero, _+_, _-_, _*_, _^_, _≤_, _<_}
+use Prim.Native.Nat.{ℕ, suc, zero, _+_, _-_, _^_, _≤_, _<_}
 use native.Mathlib.Omega.{arith}
 use lib.ListN.{length, getD, drop}
 use Rattle.term.specs.Cells.{arity, blankOf, blankForm}
-use Rattle.term.specs.Machine.{State, failed, at, step, done}
+use Rattle.term.specs.Machine.{failed, at}
 use Rattle.term.specs.Steps.{spot, Stepped}
 use Rattle.tree.specs.Shape.{child, Used}
 use Rattle.tree.specs.Words.{cellOf, firstOf, nextOf}
@@ -16,8 +16,8 @@ use Rattle.tree.specs.Unfolded.{no-trie, opens}
 use Rattle.book.specs.Memory.{view}
 use Rattle.questions.specs.declared.Point.{Point}
 use Rattle.questions.specs.declared.Ways.{Ways}
-use Rattle.questions.specs.Walk.{Walk, reading, listed, onDone, next, good, failed-none, listed-none}
-use Rattle.questions.specs.Promises.{walkBefore, walkAfter, Skips, stay, skip-on, Threaded, sizeAt, heightAt, hitsAt, Ready, beside, siblings, besideOf, belowOf, Left, PassesNode}
+use Rattle.questions.specs.Walk.{Walk, reading, next, good, failed-none}
+use Rattle.questions.specs.Promises.{walkBefore, walkAfter, Skips, stay, skip-on, Threaded, sizeAt, heightAt, hitsAt, Ready, beside, siblings, Left, PassesNode}
 use Rattle.questions.proofs.Seeking.{any-met, met-step}
 use Rattle.questions.proofs.Threads.{tree, bound, word-of, beside-threaded}
 

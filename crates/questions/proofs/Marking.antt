@@ -1,8 +1,8 @@
 -- At the question's end all siblings are rules that answer, and nothing below them is to be found.
 use mathlib.Core.Path.{_≡_, refl, sym, ap, ap₂, _∙_, subst}
-use mathlib.Core.Logic.{_⊎_, inl, inr, _↔_}
+use mathlib.Core.Logic.{_⊎_, inl, inr}
 use mathlib.Core.List.{List, [], _∷_, _++_, append-nil, append-assoc, List·Memᴰ, List·Memᴰ·head, List·Memᴰ·not-nil, List·Memᴰ·append-cases, List·Memᴰ·eq-of-singleton, Memᴰ·append-left, Memᴰ·append-right}
-use mathlib.Core.Bool.{Bool, true, false}
+use mathlib.Core.Bool.{Bool, true}
 use Prim.Native.Nat.{ℕ, zero, suc, _+_, _^_, _≤_, _<_}
 use native.Mathlib.Omega.{arith}
 use native.Mathlib.Decide.{ℕ-discrete}
@@ -16,7 +16,7 @@ use Rattle.tree.specs.Trie.{Trie, tip, node, trie}
 use Rattle.tree.specs.Search.{keep, hits}
 use Rattle.book.specs.Memory.{view}
 use Rattle.questions.specs.declared.Point.{Point}
-use Rattle.questions.specs.Walk.{Walk, reading, onDone, next, good, listed-none}
+use Rattle.questions.specs.Walk.{reading, onDone, next, good, listed-none}
 use Rattle.questions.specs.Promises.{Threaded, sizeAt, hitsAt, Ready, Marked, beside, siblings, Numbered}
 use Rattle.questions.proofs.Leaving.{n, cell-is, opened, sizes, tip-at}
 use Rattle.questions.proofs.Threads.{beside-threaded}

@@ -1,23 +1,23 @@
 -- The loop of the search: what was found so far, and what the points on the list have yet to give, is all that there is to find, and each turn
 -- leaves less of it.
 use mathlib.Core.Path.{_≡_, refl, sym, ap, ap₂, _∙_, subst}
-use mathlib.Core.Logic.{_⊎_, inl, inr, _↔_}
+use mathlib.Core.Logic.{_⊎_, inl, inr}
 use mathlib.Core.List.{[], List, _++_, append-nil, append-assoc, List·Memᴰ}
 use mathlib.Core.Bool.{Bool}
 use Prim.Native.Nat.{ℕ, zero, suc, _+_, _-_, _^_, _≤_, _<_}
 use native.Mathlib.Omega.{arith}
 use native.Mathlib.Decide.{ℕ-discrete}
-use lib.ListN.{length, getD, set, length-set, take}
+use lib.ListN.{length, getD, set, length-set}
 use lib.Seq.{getD-set-same, getD-set-other, getD-take}
 use Rattle.bits.specs.Numbers.{Member, NumberSet}
 use Rattle.term.specs.Cells.{Terms, blankForm}
 use Rattle.term.specs.Machine.{at, run, done}
 use Rattle.term.specs.Whole.{whole-term}
-use Rattle.tree.specs.Shape.{child, Used, Tree}
+use Rattle.tree.specs.Shape.{child, Used}
 use Rattle.tree.specs.Words.{firstOf}
-use Rattle.tree.specs.Trie.{trie, height, Bounded}
+use Rattle.tree.specs.Trie.{trie, Bounded}
 use Rattle.tree.specs.Unfolded.{height-root}
-use Rattle.tree.specs.Search.{hits, size}
+use Rattle.tree.specs.Search.{hits}
 use Rattle.book.specs.Memory.{view, term, Passing, rulesIn}
 use Rattle.book.specs.Holding.{at-holds, holds-at}
 use Rattle.book.specs.Promises.{IsTerm}
@@ -25,7 +25,7 @@ use Rattle.questions.specs.declared.Point.{Point}
 use Rattle.questions.specs.declared.Points.{Points}
 use Rattle.questions.specs.Demand2.{term-form}
 use Rattle.questions.specs.Walk.{next, good, found, found-rule, rule-found}
-use Rattle.questions.specs.Promises.{walkBefore, Threaded, sizeAt, heightAt, hitsAt, Ready, Marked, Splits, Steady, Goes, gone, splits, Went, Rooted, Answering, Searched}
+use Rattle.questions.specs.Promises.{walkBefore, sizeAt, heightAt, hitsAt, Ready, Marked, Splits, Steady, Goes, gone, splits, Went, Rooted, Answering, Searched}
 use Rattle.questions.proofs.Leaving.{positive}
 use Rattle.questions.proofs.Marking.{marks-none, marks-on}
 use Rattle.questions.proofs.Threads as threads

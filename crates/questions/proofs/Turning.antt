@@ -1,8 +1,8 @@
 -- A turn: what was found so far, and what the point at hand has yet to give, is all that is found from the point with which it begins.
-use mathlib.Core.Path.{_≡_, refl, sym, ap, ap₂, _∙_, subst}
+use mathlib.Core.Path.{_≡_, refl, sym, ap, _∙_, subst}
 use mathlib.Core.List.{[], List, _++_, append-nil, append-assoc}
 use mathlib.Core.Bool.{Bool}
-use Prim.Native.Nat.{ℕ, _+_, _-_, _≤_, _<_}
+use Prim.Native.Nat.{ℕ, _+_, _-_, _≤_}
 use native.Mathlib.Omega.{arith}
 use Rattle.bits.specs.Numbers.{NumberSet}
 use Rattle.questions.specs.declared.Point.{Point}

@@ -1,14 +1,10 @@
 -- What is marked so far and the siblings still to come are all of them, and each turn marks one.
 use borrow.Author.Needs.{needs}
-use mathlib.Core.Path.{_≡_, refl, sym, ap, _∙_, subst}
-use mathlib.Core.List.{List, [], _∷_, _++_, append-nil, append-assoc, List·Memᴰ, List·Memᴰ·head, Memᴰ·append-right}
-use Prim.Native.Nat.{ℕ, _+_, _^_, _<_, _≤_}
+use mathlib.Core.Path.{_≡_, refl, _∙_}
+use Prim.Native.Nat.{ℕ, _^_, _<_, _≤_}
 use native.Mathlib.Omega.{arith}
 use lib.ListN.{length, getD}
-use Rattle.bits.specs.Numbers.{Puts}
-use Rattle.tree.specs.Words.{cellOf, nextOf}
-use Rattle.book.specs.Memory.{view}
-use Rattle.questions.specs.Promises.{Threaded, sizeAt, Marked, siblings, Numbered}
+use Rattle.questions.specs.Promises.{sizeAt, siblings}
 use Rattle.questions.proofs.Threads.{in-tree}
 use Rattle.questions.proofs.Marking.{Marking, begins, marks-next, number-low, fewer, marks-all}
 use Rattle.questions.proofs.mark_rules.Statement.{statement}
