@@ -295,9 +295,10 @@ fn turn(
         skip = t.skip;
         place = t.place;
     }
+    let none = as_point(0, 0, 0);
     Points {
-        beside: p,
-        below: p,
+        beside: none,
+        below: none,
         depth: depth - 1,
     }
 }

@@ -13,11 +13,11 @@ use Rattle.questions.proofs.turn.Statement.{statement}
 use Rattle.questions.proofs.turn.Tie as tie
 
 abbrev Inv-loop : tie.InvT-loop
-Inv-loop m fills-question fills-rule question marks₀ p depth link₀ skip₀ place₀ marks link skip place =
-    (length marks ≡ length marks₀) × Turning fills-question fills-rule m question marks₀ p marks (record { link = link; skip = skip; place = place })
+Inv-loop m fills-question fills-rule question marks₀ depth link₀ skip₀ place₀ marks link skip place =
+    (length marks ≡ length marks₀) × Turning fills-question fills-rule m question marks₀ (record { link = link₀; skip = skip₀; place = place₀ }) marks (record { link = link; skip = skip; place = place })
 
 abbrev μ-loop : tie.MeasureT-loop
-μ-loop m fills-question fills-rule question marks₀ p depth link₀ skip₀ place₀ marks link skip place = sizeAt m link
+μ-loop m fills-question fills-rule question marks₀ depth link₀ skip₀ place₀ marks link skip place = sizeAt m link
 
 module _ (l : tie.At-loop Inv-loop μ-loop) where
   abbrev start : tie.Start Inv-loop μ-loop
@@ -82,9 +82,9 @@ returns c =
 
 returns-2 : tie.Need-returns-2 Inv-loop μ-loop
 returns-2 c =
-    let l = c .before in
+    let l = c .before .before in
     let s = start l .args in
-    ends (s .fills-question) (s .fills-rule) (s .m .now) (s .question .now) (s .marks .now) (s .p) (l .loop .marks) (here l) (l .loop .inv .1) (c .loop-test .left) (s .depth) _ refl
+    ends (s .fills-question) (s .fills-rule) (s .m .now) (s .question .now) (s .marks .now) (s .p) (l .loop .marks) (here l) (l .loop .inv .1) (c .before .loop-test .left) (s .depth) _ refl
 
 pub turn-spec : {M : Type 1} → statement M
 turn-spec =
@@ -106,6 +106,7 @@ turn-spec =
     returns
     (λ c. let t = tried (c .before .before .before) .try-point .ensures .left .fewer in omega arith)
     loop-again-2
-    (λ c. let h = start (c .before) .pre .some in omega arith)
-    (λ c. c .before .loop .inv .0)
+    (λ c κs. (omega arith, (omega arith, omega arith)))
+    (λ c. let h = start (c .before .before) .pre .some in omega arith)
+    (λ c. c .before .before .loop .inv .0)
     returns-2)
