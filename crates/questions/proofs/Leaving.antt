@@ -107,7 +107,7 @@ module _ (ws : List ℕ) (words : (i : ℕ) → getD ws i 0 < 2 ^ 64) (x : ℕ) 
 
 module _ (fq fr : Bool) (ws q : List ℕ) (words : (i : ℕ) → getD ws i 0 < 2 ^ 64) (p : Point) (r : Ready fq fr ws q p) where
   -- a point without a node
-  empty : (skip place : ℕ) → skip ≤ 231 → place ≤ length q → Ready fq fr ws q (record { link = 0; skip = skip; place = place })
+  pub empty : (skip place : ℕ) → skip ≤ 231 → place ≤ length q → Ready fq fr ws q (record { link = 0; skip = skip; place = place })
   empty skip place few inside = record {
     threaded = record { passing = r .threaded .passing; used = λ n e. absurd (omega arith) };
     short = r .short;

@@ -25,7 +25,7 @@ use Rattle.questions.specs.declared.Point.{Point}
 use Rattle.questions.specs.declared.Points.{Points}
 use Rattle.questions.specs.Demand2.{term-form}
 use Rattle.questions.specs.Walk.{next, good, found, found-rule, rule-found}
-use Rattle.questions.specs.Promises.{walkBefore, sizeAt, heightAt, hitsAt, Ready, Marked, Splits, Steady, Goes, gone, splits, Went, Rooted, Answering, Searched}
+use Rattle.questions.specs.Promises.{walkBefore, sizeAt, heightAt, hitsAt, Ready, Marked, Parts, Steady, Goes, gone, parts, Went, Rooted, Answering, Searched}
 use Rattle.questions.proofs.Leaving.{positive}
 use Rattle.questions.proofs.Marking.{marks-none, marks-on}
 use Rattle.questions.proofs.Threads as threads
@@ -90,7 +90,7 @@ module _ (fq fr : Bool) (ws q : List ℕ) (b : Book ws q) where
 
   -- what the loop keeps: the marks, the list, and how many stand on it
   pub record Searching (marks₀ marks : List ℕ) (l : List Point) (depth : ℕ) : Type 0 where
-    pub long : length l ≡ 35
+    pub long : length l ≡ 36
     pub deep : depth ≤ 34
     pub sofar : List ℕ
     pub marked : Marked ws marks₀ marks sofar
@@ -125,7 +125,7 @@ module _ (fq fr : Bool) (ws q : List ℕ) (b : Book ws q) where
           subst (λ (c : ℕ). c < 4096) (ap (view ws .tree .cell) (sym (x .1))) (b .passing .right .records (x .0) (x .2) .low);
     }
 
-    pub starts : (marks : List ℕ) (l : List Point) → NumberSet marks → length l ≡ 35 → pointAt l 0 ≡ record { link = first; skip = 0; place = 0 } → Searching marks marks l 1
+    pub starts : (marks : List ℕ) (l : List Point) → NumberSet marks → length l ≡ 36 → pointAt l 0 ≡ record { link = first; skip = 0; place = 0 } → Searching marks marks l 1
     unfolding waiting
     starts marks l set long is = record {
       long = long;
@@ -199,23 +199,30 @@ module _ (fq fr : Bool) (ws q marks₀ marks : List ℕ) (l : List Point) (depth
     -- a turn
     module _ (marks′ : List ℕ) (r : Points) where
       abbrev one : List Point
-      one = set l (depth - 1) (r .beside)
+      one = set l (depth - 1) (r .waits)
+
+      abbrev two : List Point
+      two = set (set l (depth - 1) (r .waits)) depth (r .beside)
 
       abbrev l′ : List Point
-      l′ = set (set l (depth - 1) (r .beside)) depth (r .below)
+      l′ = set (set (set l (depth - 1) (r .waits)) depth (r .beside)) (depth + 1) (r .below)
 
-      long′ : length l′ ≡ 35
-      long′ = length-set one depth (r .below) ∙ length-set l (depth - 1) (r .beside) ∙ s .long
+      long′ : length l′ ≡ 36
+      long′ = length-set two (depth + 1) (r .below) ∙ length-set one depth (r .beside) ∙ length-set l (depth - 1) (r .waits) ∙ s .long
 
       -- the points before it stay
       others : (j : ℕ) → j < depth - 1 → pointAt l′ j ≡ pointAt l j
-      others j a = getD-set-other one depth j (r .below) _ (λ e. omega arith) ∙ getD-set-other l (depth - 1) j (r .beside) _ (λ e. omega arith)
+      others j a = getD-set-other two (depth + 1) j (r .below) _ (λ e. omega arith) ∙ getD-set-other one depth j (r .beside) _ (λ e. omega arith) ∙ getD-set-other l (depth - 1) j (r .waits) _ (λ e. omega arith)
 
-      beside-is : pointAt l′ (depth - 1) ≡ r .beside
-      beside-is = getD-set-other one depth (depth - 1) (r .below) _ (λ e. omega arith) ∙ getD-set-same l (depth - 1) (r .beside) _ (let d = s .deep in omega (arith, s .long))
+      waits-is : pointAt l′ (depth - 1) ≡ r .waits
+      waits-is = getD-set-other two (depth + 1) (depth - 1) (r .below) _ (λ e. omega arith) ∙ getD-set-other one depth (depth - 1) (r .beside) _ (λ e. omega arith) ∙ getD-set-same l (depth - 1) (r .waits) _ (let d = s .deep in omega (arith, s .long))
 
-      below-is : pointAt l′ depth ≡ r .below
-      below-is = getD-set-same one depth (r .below) _ (let d = s .deep in omega (arith, s .long, length-set l (depth - 1) (r .beside)))
+      beside-is : pointAt l′ depth ≡ r .beside
+      beside-is = getD-set-other two (depth + 1) depth (r .below) _ (λ e. omega arith) ∙ getD-set-same one depth (r .beside) _ (let d = s .deep in omega (arith, s .long, length-set l (depth - 1) (r .waits)))
+
+      below-is : pointAt l′ (suc depth) ≡ r .below
+      below-is = let up : suc depth ≡ depth + 1 = omega arith in
+          ap (pointAt l′) up ∙ getD-set-same two (depth + 1) (r .below) _ (let d = s .deep in omega (arith, s .long, length-set l (depth - 1) (r .waits), length-set one depth (r .beside)))
 
       stand′ : (j : ℕ) → j < depth - 1 → Good fq fr ws q (pointAt l′ j) j
       stand′ j a = subst (λ (x : Point). Good fq fr ws q x j) (sym (others j a)) (s .stand j (omega arith))
@@ -248,18 +255,27 @@ module _ (fq fr : Bool) (ws q marks₀ marks : List ℕ) (l : List Point) (depth
           fewer = (let a = left-same ws l l′ (depth - 1) others in let c = left-last ws l depth h in let d = positive (trie (view ws .tree) (p .link)) in omega arith);
         }
 
-        comes-apart : Splits fq fr ws q p nodes (r .below) (r .beside) → Again fq fr ws q marks₀ l depth marks′ l′ (suc depth)
+        abbrev below : List ℕ
+        below = hitsAt fq fr ws q (r .below)
+
+        abbrev beside : List ℕ
+        beside = hitsAt fq fr ws q (r .beside)
+
+        abbrev waits : List ℕ
+        waits = hitsAt fq fr ws q (r .waits)
+
+        comes-apart : Parts fq fr ws q p nodes (r .below) (r .beside) (r .waits) → Again fq fr ws q marks₀ l depth marks′ l′ (suc (suc depth))
         unfolding waiting left
         comes-apart t = record {
           again = (
             i .0,
             record {
               long = long′;
-              deep = (let a = last .high in let c = t .deeper in omega arith);
+              deep = (let a = last .high in let c = t .deepest in omega arith);
               sofar = s .sofar ++ nodes;
               marked = marked′;
-              total = total′ _ _ (t .gives) (append-assoc (hitsAt fq fr ws q (r .below)) (hitsAt fq fr ws q (r .beside)) rest ∙ ap₂ (λ (x : Point) (y : List ℕ). hitsAt fq fr ws q x ++ y) (sym below-is) (sym two));
-              stand = λ j a. stands j (ℕ-discrete j depth) (ℕ-discrete j (depth - 1)) a;
+              total = total′ _ _ (t .gives) (append-assoc below (beside ++ waits) rest ∙ ap₂ (λ (x : Point) (y : List ℕ). hitsAt fq fr ws q x ++ y) (sym below-is) (append-assoc beside waits rest ∙ ap₂ (λ (x : Point) (y : List ℕ). hitsAt fq fr ws q x ++ y) (sym beside-is) (sym first)));
+              stand = λ j a. stands j (ℕ-discrete j (suc depth)) (ℕ-discrete j depth) (ℕ-discrete j (depth - 1)) a;
             },
           );
           fewer =
@@ -268,21 +284,23 @@ module _ (fq fr : Bool) (ws q marks₀ marks : List ℕ) (l : List Point) (depth
               let d = left-last ws l′ depth h in
               let e = ap (λ (x : Point). sizeAt ws (x .link)) below-is in
               let f = ap (λ (x : Point). sizeAt ws (x .link)) beside-is in
+              let k = ap (λ (x : Point). sizeAt ws (x .link)) waits-is in
               let g = t .fewer in
               omega arith;
         }
           where
-            two : waiting fq fr ws q l′ depth ≡ hitsAt fq fr ws q (r .beside) ++ rest
-            two = waiting-last fq fr ws q l′ depth h ∙ ap₂ (λ (x : Point) (y : List ℕ). hitsAt fq fr ws q x ++ y) beside-is (waiting-same fq fr ws q l l′ (depth - 1) others)
+            first : waiting fq fr ws q l′ depth ≡ waits ++ rest
+            first = waiting-last fq fr ws q l′ depth h ∙ ap₂ (λ (x : Point) (y : List ℕ). hitsAt fq fr ws q x ++ y) waits-is (waiting-same fq fr ws q l l′ (depth - 1) others)
 
-            stands : (j : ℕ) → Dec (j ≡ depth) → Dec (j ≡ depth - 1) → j < suc depth → Good fq fr ws q (pointAt l′ j) j
-            stands j (yes e) f a = subst (λ (i : ℕ). Good fq fr ws q (pointAt l′ i) i) (sym e) (subst (λ (x : Point). Good fq fr ws q x depth) (sym below-is) (record { ready = t .below-ready; high = (let b = last .high in let c = t .deeper in omega arith) }))
-            stands j (no e) (yes f) a = subst (λ (i : ℕ). Good fq fr ws q (pointAt l′ i) i) (sym f) (subst (λ (x : Point). Good fq fr ws q x (depth - 1)) (sym beside-is) (record { ready = t .beside-ready; high = (let b = last .high in let c = t .level in omega arith) }))
-            stands j (no e) (no f) a = stand′ j (omega arith)
+            stands : (j : ℕ) → Dec (j ≡ suc depth) → Dec (j ≡ depth) → Dec (j ≡ depth - 1) → j < suc (suc depth) → Good fq fr ws q (pointAt l′ j) j
+            stands j (yes e) f g a = subst (λ (i : ℕ). Good fq fr ws q (pointAt l′ i) i) (sym e) (subst (λ (x : Point). Good fq fr ws q x (suc depth)) (sym below-is) (record { ready = t .below-ready; high = (let b = last .high in let c = t .deepest in omega arith) }))
+            stands j (no e) (yes f) g a = subst (λ (i : ℕ). Good fq fr ws q (pointAt l′ i) i) (sym f) (subst (λ (x : Point). Good fq fr ws q x depth) (sym beside-is) (record { ready = t .beside-ready; high = (let b = last .high in let c = t .deeper in omega arith) }))
+            stands j (no e) (no f) (yes g) a = subst (λ (i : ℕ). Good fq fr ws q (pointAt l′ i) i) (sym g) (subst (λ (x : Point). Good fq fr ws q x (depth - 1)) (sym waits-is) (record { ready = t .waits-ready; high = (let b = last .high in let c = t .level in omega arith) }))
+            stands j (no e) (no f) (no g) a = stand′ j (omega arith)
 
         after : Goes fq fr ws q p nodes depth r → Again fq fr ws q marks₀ l depth marks′ l′ (r .depth)
         after (gone e d) = subst (Again fq fr ws q marks₀ l depth marks′ l′) (sym d) (goes-away e)
-        after (splits t d) = let up : suc depth ≡ r .depth = omega (arith, d) in subst (Again fq fr ws q marks₀ l depth marks′ l′) up (comes-apart t)
+        after (parts t d) = let up : suc (suc depth) ≡ r .depth = omega (arith, d) in subst (Again fq fr ws q marks₀ l depth marks′ l′) up (comes-apart t)
 
-      pub turned : Went fq fr ws q marks marks′ (pointAt l (depth - 1)) depth r → Again fq fr ws q marks₀ l depth marks′ (set (set l (depth - 1) (r .beside)) depth (r .below)) (r .depth)
+      pub turned : Went fq fr ws q marks marks′ (pointAt l (depth - 1)) depth r → Again fq fr ws q marks₀ l depth marks′ (set (set (set l (depth - 1) (r .waits)) depth (r .beside)) (depth + 1) (r .below)) (r .depth)
       turned w = after (w .nodes) (w .marked) (w .goes)

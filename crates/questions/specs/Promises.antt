@@ -148,6 +148,17 @@ pub record Tried (fq fr : Bool) (ws question marks marks′ : List ℕ) (p : Poi
   pub marked : Marked ws marks marks′ nodes
   pub left : Left fq fr ws question p nodes r
 
+-- A point with these numbers can stand on the list.
+abbrev pub Small : ℕ → ℕ → ℕ → Type 0
+Small link skip place = (link ≤ 4608) × ((skip ≤ 231) × (place ≤ 32))
+
+-- Three points stand on it: the one that waits, and those that a try leaves.
+pub record Parted (link skip place left at : ℕ) (t : Ways) (depth : ℕ) (r : Points) : Type 0 where
+  pub waits-is : r .waits ≡ record { link = link; skip = skip; place = place }
+  pub beside-is : r .beside ≡ record { link = t .beside; skip = left; place = at }
+  pub below-is : r .below ≡ record { link = t .down; skip = t .skip; place = t .place }
+  pub depth-is : r .depth ≡ depth + 2
+
 -- The last of so many points can be tried.
 pub record Steady (fq fr : Bool) (ws question marks : List ℕ) (p : Point) (depth : ℕ) : Type 0 where
   pub ready : Ready fq fr ws question p
@@ -155,10 +166,22 @@ pub record Steady (fq fr : Bool) (ws question marks : List ℕ) (p : Point) (dep
   pub some : 0 < depth
   pub deep : depth ≤ 34
 
--- After a turn all that is found from the point on is marked, and it goes; or some, and two points stand for the rest.
+-- What is found from the point on are these nodes, and what is found from three other points on. All can be tried, there is less behind them, and
+-- each is a level deeper than the one before.
+pub record Parts (fq fr : Bool) (ws question : List ℕ) (p : Point) (nodes : List ℕ) (below beside waits : Point) : Type 0 where
+  pub gives : hitsAt fq fr ws question p ≡ nodes ++ (hitsAt fq fr ws question below ++ (hitsAt fq fr ws question beside ++ hitsAt fq fr ws question waits))
+  pub fewer : sizeAt ws (below .link) + sizeAt ws (beside .link) + sizeAt ws (waits .link) < sizeAt ws (p .link)
+  pub deepest : heightAt ws (below .link) + 1 < heightAt ws (p .link)
+  pub deeper : heightAt ws (beside .link) < heightAt ws (p .link)
+  pub level : heightAt ws (waits .link) ≤ heightAt ws (p .link)
+  pub below-ready : Ready fq fr ws question below
+  pub beside-ready : Ready fq fr ws question beside
+  pub waits-ready : Ready fq fr ws question waits
+
+-- After a turn all that is found from the point on is marked, and it goes; or some, and three points stand for the rest.
 pub data Goes (fq fr : Bool) (ws question : List ℕ) (p : Point) (nodes : List ℕ) (depth : ℕ) (r : Points) : Type 0 where
   gone : hitsAt fq fr ws question p ≡ nodes → r .depth ≡ depth - 1 → Goes fq fr ws question p nodes depth r
-  splits : Splits fq fr ws question p nodes (r .below) (r .beside) → r .depth ≡ depth + 1 → Goes fq fr ws question p nodes depth r
+  parts : Parts fq fr ws question p nodes (r .below) (r .beside) (r .waits) → r .depth ≡ depth + 2 → Goes fq fr ws question p nodes depth r
 
 pub record Went (fq fr : Bool) (ws question marks marks′ : List ℕ) (p : Point) (depth : ℕ) (r : Points) : Type 0 where
   pub nodes : List ℕ
@@ -172,7 +195,7 @@ pub record IsRoot (ws : List ℕ) (p : Point) : Type 0 where
 
 -- It stands first on a list that is long enough.
 pub record Rooted (ws : List ℕ) (l : List Point) : Type 0 where
-  pub long : length l ≡ 35
+  pub long : length l ≡ 36
   pub root : IsRoot ws (getD l 0 (record { link = 0; skip = 0; place = 0 }))
 
 -- The rule with the number k answers, as the machine decides it.

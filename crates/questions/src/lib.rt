@@ -1,11 +1,12 @@
 // The four questions: one search over the book's tree.
 //
 // The points still to be tried stand on a list, one a level: a link, and where the machine stands before it. The last is taken
-// in hand. At a node the machine takes one step; where it goes on, the node's first child is tried next, and its sibling waits.
+// in hand. At a node the machine takes one step; where it goes on, the node's first child is tried next, and its sibling waits:
+// one at hand, the others on the list.
 // Where the machine is done, the node and all its later siblings are rules that answer. Variants, instances, generalisations
 // and unifiables differ in two flags and in nothing else.
 ghost use mathlib.Core.Path.{_≡_};
-ghost use Prim.Native.Nat.{_<_, _≤_};
+ghost use Prim.Native.Nat.{_-_, _<_, _≤_};
 ghost use mathlib.Core.List.{[]};
 ghost use lib.ListN.{length};
 ghost use Rattle.book.specs.Memory.{Passing};
@@ -13,7 +14,7 @@ ghost use Rattle.book.specs.Promises.{IsTerm};
 ghost use Rattle.bits.specs.Numbers.{NumberSet, has};
 ghost use Rattle.tree.specs.Words.{cellOf};
 ghost use Rattle.questions.specs.Asking.{numbers};
-ghost use Rattle.questions.specs.Promises.{Onwards, Begins, Sought, Decisive, LastWanted, Threaded, PassesNode, Numbered, Marked, siblings, Ready, Left, Tried, Steady, Went, IsRoot, Rooted, Searched, Lists};
+ghost use Rattle.questions.specs.Promises.{Onwards, Begins, Sought, Decisive, LastWanted, Threaded, PassesNode, Numbered, Marked, siblings, Ready, Left, Tried, Small, Parted, Steady, Went, IsRoot, Rooted, Searched, Lists};
 use term::machine;
 
 // A point still to be tried: a link, the subterms of a rule still to skip there, and the place in the question. It is small, since
@@ -245,15 +246,53 @@ fn as_point(link: usize, skip: usize, place: usize) -> Point
     }
 }
 
-// What the list becomes after a turn: the point in the place of the one that was tried, the point above it, and how many stand.
+// What the list becomes after a turn: the point in the place of the one that was tried, the two above it, and how many stand.
 pub struct Points {
+    pub waits: Point,
     pub beside: Point,
     pub below: Point,
     pub depth: usize,
 }
 
-// A turn of the search: the point p, the last of `depth`, is tried, and then the sibling or the child that it leaves, until it
-// leaves both or neither. Till then the list need not be touched.
+// A turn ends where nothing is left: the point goes, and the places above it are never read.
+fn ended(p: Point, depth: usize) -> Points
+    requires { ⌜ 0 < depth ⌝ }
+    ensures { λ r. ⌜ r .depth ≡ depth - 1 ⌝ }
+{
+    Points {
+        waits: p,
+        beside: p,
+        below: p,
+        depth: depth - 1,
+    }
+}
+
+// A turn ends where a node leaves a sibling and a child while a point waits: the three stand on the list.
+fn parted(
+    waits: usize,
+    waits_skip: usize,
+    waits_at: usize,
+    skip: usize,
+    at: usize,
+    t: Ways,
+    depth: usize,
+) -> Points
+    requires { ⌜ Small waits «waits_skip» «waits_at» ⌝ }
+    requires { ⌜ Small (t .beside) skip at × Small (t .down) (t .skip) (t .place) ⌝ }
+    requires { ⌜ depth ≤ 34 ⌝ }
+    ensures { λ r. ⌜ Parted waits «waits_skip» «waits_at» skip at t depth r ⌝ }
+{
+    Points {
+        waits: as_point(waits, waits_skip, waits_at),
+        beside: as_point(t.beside, skip, at),
+        below: as_point(t.down, t.skip, t.place),
+        depth: depth + 2,
+    }
+}
+
+// A turn of the search: the point p, the last of `depth`, is tried, and then the sibling or the child that it leaves. Where it
+// leaves both, the child is tried and the sibling waits, until nothing is left or a second would have to wait. Till then the
+// list need not be touched.
 fn turn(
     m: &[u64],
     fills_question: bool,
@@ -266,41 +305,42 @@ fn turn(
     requires { ⌜ Steady «fills_question» «fills_rule» (now m) (now question) (now marks) p depth ⌝ }
     ensures { λ r. ⌜ Went «fills_question» «fills_rule» (now (m .entry)) (now (question .entry)) (now (marks .entry)) (now (marks .exit)) p depth r ⌝ }
 {
-    let mut link = p.link as usize;
+    let mut x = p.link as usize;
     let mut skip = p.skip as usize;
-    let mut place = p.place as usize;
-    while link != 0 {
-        let t = try_point(
-            m,
-            fills_question,
-            fills_rule,
-            question,
-            marks,
-            link,
-            skip,
-            place,
-        );
+    let mut at = p.place as usize;
+    let mut waits: usize = 0;
+    let mut waits_skip: usize = 0;
+    let mut waits_at: usize = 0;
+    while x != 0 {
+        let t = try_point(m, fills_question, fills_rule, question, marks, x, skip, at);
         if t.down == 0 {
-            link = t.beside;
+            if t.beside != 0 {
+                x = t.beside;
+                continue;
+            }
+            x = waits;
+            skip = waits_skip;
+            at = waits_at;
+            waits = 0;
             continue;
         }
         if t.beside != 0 {
-            return Points {
-                beside: as_point(t.beside, skip, place),
-                below: as_point(t.down, t.skip, t.place),
-                depth: depth + 1,
-            };
+            if waits != 0 {
+                return parted(waits, waits_skip, waits_at, skip, at, t, depth);
+            }
+            waits = t.beside;
+            waits_skip = skip;
+            waits_at = at;
+            x = t.down;
+            skip = t.skip;
+            at = t.place;
+            continue;
         }
-        link = t.down;
+        x = t.down;
         skip = t.skip;
-        place = t.place;
+        at = t.place;
     }
-    let none = as_point(0, 0, 0);
-    Points {
-        beside: none,
-        below: none,
-        depth: depth - 1,
-    }
+    ended(p, depth)
 }
 
 // The point that the search begins with.
@@ -333,8 +373,9 @@ fn search(
         let k = depth - 1;
         let p = list[k];
         let t = turn(m, fills_question, fills_rule, question, marks, p, depth);
-        list[k] = t.beside;
-        list[depth] = t.below;
+        list[k] = t.waits;
+        list[depth] = t.beside;
+        list[depth + 1] = t.below;
         depth = t.depth;
     }
 }
@@ -359,7 +400,7 @@ pub fn mark_answers(
         skip: 0,
         place: 0,
     };
-    let mut list = [none; 35];
+    let mut list = [none; 36];
     list[0] = first;
     search(m, fills_question, fills_rule, question, marks, &mut list);
 }

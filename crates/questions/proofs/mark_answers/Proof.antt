@@ -84,7 +84,7 @@ abbrev te : Ty
 te = sliceTy tr
 
 abbrev ta : Ty
-ta = tyRef erased mut (pointee (Array R 35 .written))
+ta = tyRef erased mut (pointee (Array R 36 .written))
 
 abbrev ts : Ty
 ts = sliceTy (tyRef erased mut (pointee (R .written)))
@@ -95,14 +95,14 @@ none = record { link = 0; skip = 0; place = 0 }
 -- the body after the call of `root`
 abbrev after-root : Code
 after-root = seq (assign (place 7 []) (aggregate (int w16 0 ∷ int w16 0 ∷ int w16 0 ∷ [])))
-    (seq (assign (place 8 []) (repeat (copy (place 7 [])) 35))
+    (seq (assign (place 8 []) (repeat (copy (place 7 [])) 36))
     (seq (assign (place 9 []) (addrOf (place 8 [])))
     (seq (assign (place 10 []) (op2 offset (copy (place 9 [])) (int w64 0)))
     (seq (assign (place 10 (deref T′.mir ∷ [])) (rvOpd (copy (place 6 []))))
     (seq (assign (place 12 []) (addrOf (place 5 (field 0 ∷ deref word ∷ []))))
     (seq (assign (place 13 []) (aggregate (copy (place 12 []) ∷ copy (place 5 (field 1 ∷ [])) ∷ [])))
     (seq (assign (place 14 []) (addrOf (place 8 [])))
-    (seq (assign (place 15 []) (aggregate (copy (place 14 []) ∷ int w64 35 ∷ [])))
+    (seq (assign (place 15 []) (aggregate (copy (place 14 []) ∷ int w64 36 ∷ [])))
     (seq (call #questions·search (copy (place 1 []) ∷ copy (place 2 []) ∷ copy (place 3 []) ∷ copy (place 4 []) ∷ copy (place 13 []) ∷ copy (place 15 []) ∷ []) (place 11 []))
     (seq (assign (place 0 []) (rvOpd opdUnit)) return))))))))))
 
@@ -169,13 +169,13 @@ module _ {M : Type 1} (𝓤 : URA M) (H : Heap 𝓤) (A : Atoms 𝓤) (W : Given
 
   -- the zeros, their machine value, and the list with the root stored
   abbrev zs : List Point
-  zs = replicate 35 none
+  zs = replicate 36 none
 
   abbrev v : Val
-  v = arrayVal (replicate 35 (T′.lowered none))
+  v = arrayVal (replicate 36 (T′.lowered none))
 
   abbrev xs : Point → List Point
-  xs r = set (replicate 35 none) 0 r
+  xs r = set (replicate 36 none) 0 r
 
   is-none : Is R none (T′.lowered none ∷ [])
   is-none = LL.owes T.the-type T′.the-laws none ((refl, lit< tt), ((refl, lit< tt), ((refl, lit< tt), tt)))
@@ -192,7 +192,7 @@ module _ {M : Type 1} (𝓤 : URA M) (H : Heap 𝓤) (A : Atoms 𝓤) (W : Given
       sargs′ = (m, (fq, (fr, (qu, (xk, (xl r γ, tt))))))
 
       abbrev svals′ : List Val × (List Val × (List Val × (List Val × (List Val × (List Val × Unit {0})))))
-      svals′ = (vm ∷ [], (vbool fq ∷ [], (vbool fr ∷ [], (vq ∷ [], (vk ms ∷ [], (sliceVal (l₈, 0) 35 ∷ [], tt))))))
+      svals′ = (vm ∷ [], (vbool fq ∷ [], (vbool fr ∷ [], (vq ∷ [], (vk ms ∷ [], (sliceVal (l₈, 0) 36 ∷ [], tt))))))
 
       abbrev Sowns : Fml
       Sowns = owns (ShrSlice (named 0) κ₀ u64 ∷ bool ∷ bool ∷ ShrSlice (named 1) κ₁ u16 ∷ MutSlice (named 2) κ₂ u64 ∷ MutSlice (named 3) (α ∷ []) R ∷ []) sargs′ svals′
@@ -205,14 +205,14 @@ module _ {M : Type 1} (𝓤 : URA M) (H : Heap 𝓤) (A : Atoms 𝓤) (W : Given
     sargs r α γ = (m, (fq, (fr, (qu, (xk, (xl r γ, tt))))))
 
     abbrev to : Point → ℕ → GName → Search 𝓤 H A at-mem run .Ghost
-    to r α γ = (((κ₀, (κ₁, (κ₂, (α ∷ [], tt)))), (q₀, (q₁, (q₂, (fullShare, tt)))), tt, sargs r α γ, (vm ∷ [], (vbool fq ∷ [], (vbool fr ∷ [], (vq ∷ [], (vk ms ∷ [], (sliceVal (l₈, 0) 35 ∷ [], tt))))))), tt)
+    to r α γ = (((κ₀, (κ₁, (κ₂, (α ∷ [], tt)))), (q₀, (q₁, (q₂, (fullShare, tt)))), tt, sargs r α γ, (vm ∷ [], (vbool fq ∷ [], (vbool fr ∷ [], (vq ∷ [], (vk ms ∷ [], (sliceVal (l₈, 0) 36 ∷ [], tt))))))), tt)
 
     -- after `root`: the list is filled, lent for a lifetime that is made for the call, and taken back
     lends : (r : Point) → IsRoot (m .now) r → Is R r (T′.lowered r ∷ []) → Seq (Go {0}) W (‵ (flft κ₀ q₀) ∷ ‵ Om ∷ ‵ (froom ts l₁₅ 0) ∷ ‵ (fdies ts l₁₅) ∷ ‵ (froom ta l₁₄ 0) ∷ ‵ (fdies ta l₁₄) ∷ ‵ (froom te l₁₃ 0) ∷ ‵ (fdies te l₁₃) ∷ ‵ (froom tr l₁₂ 0) ∷ ‵ (fdies tr l₁₂) ∷ ‵ (froom tyUnit l₁₁ 0) ∷ ‵ (fdies tyUnit l₁₁) ∷ ‵ (froom tyPtr l₁₀ 0) ∷ ‵ (fdies tyPtr l₁₀) ∷ ‵ (froom tyPtr l₉ 0) ∷ ‵ (fdies tyPtr l₉) ∷ ‵ (froom τ l₈ 0) ∷ ‵ (fdies τ l₈) ∷ ‵ (froom T′.mir l₇ 0) ∷ ‵ (fdies T′.mir l₇) ∷ ‵ (fat fullShare T′.mir l₆ 0 (T′.lowered r)) ∷ ‵ (fdies T′.mir l₆) ∷ ‵ (fat fullShare tk l₅ 0 (vk ms)) ∷ ‵ (fdies tk l₅) ∷ ‵ (fat fullShare tq l₄ 0 vq) ∷ ‵ (fdies tq l₄) ∷ ‵ (fat fullShare tyBool l₃ 0 (vbool fr)) ∷ ‵ (fdies tyBool l₃) ∷ ‵ (fat fullShare tyBool l₂ 0 (vbool fq)) ∷ ‵ (fdies tyBool l₂) ∷ ‵ (fat fullShare tm l₁ 0 vm) ∷ ‵ (fdies tm l₁) ∷ ‵ (froom tyUnit l₀ 0) ∷ ‵ (fdies tyUnit l₀) ∷ ‵ Oq ∷ ‵ (flft κ₁ q₁) ∷ ‵ Ok ∷ ‵ (flft κ₂ q₂) ∷ []) (runs (𝓣 .C) (𝓣 .Λ) En after-root (atRet En Post))
     lends r is-root gr =
         assigns ! (agg ! (and-then ! (lit ! tt) (and-then ! (lit ! tt) (and-then ! (lit ! tt) (no-more !))))) (from ! (stop !)) (init ! 18 refl (LL.lawful T.the-type T′.the-laws 𝓤 H A W .typed none _ is-none .0)) $
-        owned ! R (Is R) (LL.makes T.the-type T′.the-plain 𝓤 H A) none _ is-none $ use1 W (‵ (Array R 35 .own zs (v ∷ []))) (array-repeat 𝓤 H A W R (LL.copy T.the-type T′.the-copy 𝓤 H A W) 35 none (T′.lowered none)) $ peeks ! (Array R 35) (Is (Array R 35)) (shows 𝓤 H A (Array R 35)) zs (v ∷ []) (λ is.
-        assigns ! (rep ! 35 (load ! (from ! (stop !)) (look ! 19 refl))) (from ! (stop !)) (init ! 17 refl (array-typed R (LL.lawful T.the-type T′.the-laws 𝓤 H A W .typed) 35 zs _ is .0)) $
+        owned ! R (Is R) (LL.makes T.the-type T′.the-plain 𝓤 H A) none _ is-none $ use1 W (‵ (Array R 36 .own zs (v ∷ []))) (array-repeat 𝓤 H A W R (LL.copy T.the-type T′.the-copy 𝓤 H A W) 36 none (T′.lowered none)) $ peeks ! (Array R 36) (Is (Array R 36)) (shows 𝓤 H A (Array R 36)) zs (v ∷ []) (λ is.
+        assigns ! (rep ! 36 (load ! (from ! (stop !)) (look ! 19 refl))) (from ! (stop !)) (init ! 17 refl (array-typed R (LL.lawful T.the-type T′.the-laws 𝓤 H A W .typed) 36 zs _ is .0)) $
         -- the root is stored in the first place
         assigns ! (addr ! (from ! (stop !))) (from ! (stop !)) (init ! 15 refl (tt, tt)) $
         assigns ! (bin ! (load ! (from ! (stop !)) (look ! 15 refl)) (lit ! tt) tt) (from ! (stop !)) (init ! 13 refl (tt, tt)) $
@@ -227,7 +227,7 @@ module _ {M : Type 1} (𝓤 : URA M) (H : Heap 𝓤) (A : Atoms 𝓤) (W : Given
         assigns ! (addr ! (from ! (stop !))) (from ! (stop !)) (init ! 5 refl (tt, tt)) $
         assigns ! (agg ! (and-then ! (load ! (from ! (stop !)) (look ! 5 refl)) (and-then ! (lit ! tt) (no-more !)))) (from ! (stop !)) (init ! 3 refl (tt, (tt, (record { fits = lit< tt }, tt)))) $
         use1 W (‵ (cells (mem R) (xs r) l₈ 0)) (whole-in 𝓤 H A W R (xs r) l₈ 0) $ lft-new ! tt (λ α. move ! (1 ∷ []) $
-        use1 W (later (some (λ (γ : GName). ‵ (MutSlice (named 3) (α ∷ []) R .own (xl r γ) (sliceVal (l₈, 0) 35 ∷ [])) ⊛ ‵ (flent (α ∷ []) (Held R 35 l₈ 0 γ))))) (lends-slice 𝓤 H A W R (named 3) (α ∷ []) (xs r) l₈ 0 (lit< tt, lit< tt)) $ await ! tt $ pick ! (λ γ.
+        use1 W (later (some (λ (γ : GName). ‵ (MutSlice (named 3) (α ∷ []) R .own (xl r γ) (sliceVal (l₈, 0) 36 ∷ [])) ⊛ ‵ (flent (α ∷ []) (Held R 36 l₈ 0 γ))))) (lends-slice 𝓤 H A W R (named 3) (α ∷ []) (xs r) l₈ 0 (lit< tt, lit< tt)) $ await ! tt $ pick ! (λ γ.
         split ! $ move ! (4 ∷ []) $ use1 W (‵ Om ⊛ ‵ Om) (shr-slice-copy 𝓤 H A W (named 0) κ₀ u64 .twice m (vm ∷ [])) $ split ! $ move ! (37 ∷ []) $ use1 W (‵ Oq ⊛ ‵ Oq) (shr-slice-copy 𝓤 H A W (named 1) κ₁ u16 .twice qu (vq ∷ [])) $ split ! $
         nothing ! $ move ! (5 ∷ 0 ∷ []) $ fjoin ! $ move ! (40 ∷ 0 ∷ []) $ fjoin ! $ move ! (1 ∷ 0 ∷ []) $ fjoin ! $ owned ! bool (Is bool) (bool-makes 𝓤 H A W) fr _ refl $ fjoin ! $ owned ! bool (Is bool) (bool-makes 𝓤 H A W) fq _ refl $ fjoin ! $ move ! (2 ∷ 0 ∷ []) $ fjoin ! $
         nothing ! $ move ! (5 ∷ 0 ∷ []) $ join ! $ move ! (38 ∷ 0 ∷ []) $ join ! $ move ! (37 ∷ 0 ∷ []) $ join ! $ move ! (5 ∷ 0 ∷ []) $ join ! $ use2 W (raw (Search 𝓤 H A at-mem run .pre (to r α γ))) (asked r is-root α γ) $
@@ -238,7 +238,7 @@ module _ {M : Type 1} (𝓤 : URA M) (H : Heap 𝓤) (A : Atoms 𝓤) (W : Given
         fsplit ! $ drop ! $ fsplit ! $ drop ! $ fsplit ! $ drop ! $ fsplit ! $ drop ! $ fsplit ! $ fsplit ! $ move ! (1 ∷ []) $ feqL ! (λ ek. move ! (1 ∷ []) $ fsplit ! $ fsplit ! $ move ! (1 ∷ []) $ feqL ! (λ el. move ! (1 ∷ []) $ drop ! $
         move ! (2 ∷ []) $ split ! $ move ! (1 ∷ []) $ peeks ! unit (Is unit) (shows 𝓤 H A unit) u (w ∷ []) (λ isu. land ! (from ! (stop !)) (init ! 15 refl (nothing-lawful 𝓤 H A W .typed u _ isu .0)) $ drop ! $
         split ! $ move ! (1 ∷ []) $ split ! $ move ! (1 ∷ []) $ split ! $ move ! (1 ∷ []) $ split ! $ move ! (1 ∷ []) $ drop ! $
-        lft-end ! tt $ move ! (0 ∷ 8 ∷ 4 ∷ []) $ use3 W (later (‵ (Arr (mem R) 35 .lies (fs .1 .1 .1 .1 .1 .0) l₈ 0))) (slice-back 𝓤 H A W R (α ∷ []) γ (fs .1 .1 .1 .1 .1 .0) 35 l₈ 0) $ await ! tt $ fsplit ! $ feqL ! (λ len. use1 W (‵ (froom τ l₈ 0)) (list-gone 𝓤 H A W l₈ (fs .1 .1 .1 .1 .1 .0) len) $
+        lft-end ! tt $ move ! (0 ∷ 8 ∷ 4 ∷ []) $ use3 W (later (‵ (Arr (mem R) 36 .lies (fs .1 .1 .1 .1 .1 .0) l₈ 0))) (slice-back 𝓤 H A W R (α ∷ []) γ (fs .1 .1 .1 .1 .1 .0) 36 l₈ 0) $ await ! tt $ fsplit ! $ feqL ! (λ len. use1 W (‵ (froom τ l₈ 0)) (list-gone 𝓤 H A W l₈ (fs .1 .1 .1 .1 .1 .0) len) $
         assigns ! (of-opd ! (unit-lit !)) (from ! (stop !)) (init ! 36 refl (tt, tt)) $ returns ! (look ! 36 refl) $ forget ! 36 refl $ forget ! 34 refl $ forget ! 32 refl $ forget ! 30 refl $ forget ! 28 refl $ forget ! 26 refl $ forget ! 24 refl $ forget ! 22 refl $ forget ! 19 refl $ forget ! 17 refl $ forget ! 15 refl $ forget ! 13 refl $ forget ! 11 refl $ forget ! 9 refl $ forget ! 7 refl $
         move ! (36 ∷ 37 ∷ []) $ free1 ! $ move ! (34 ∷ 35 ∷ []) $ free1 ! $ move ! (32 ∷ 33 ∷ []) $ free1 ! $ move ! (30 ∷ 31 ∷ []) $ free1 ! $ move ! (28 ∷ 29 ∷ []) $ free1 ! $ move ! (26 ∷ 27 ∷ []) $ free1 ! $ move ! (24 ∷ 25 ∷ []) $ free1 ! $ move ! (22 ∷ 23 ∷ []) $ free1 ! $ move ! (0 ∷ 21 ∷ []) $ free1 ! $ move ! (18 ∷ 19 ∷ []) $ free1 ! $ move ! (16 ∷ 17 ∷ []) $ free1 ! $ move ! (14 ∷ 15 ∷ []) $ free1 ! $ move ! (12 ∷ 13 ∷ []) $ free1 ! $ move ! (10 ∷ 11 ∷ []) $ free1 ! $ move ! (8 ∷ 9 ∷ []) $ free1 ! $ move ! (6 ∷ 7 ∷ []) $ free1 ! $ free0 ! $ move ! (3 ∷ 0 ∷ 5 ∷ 2 ∷ 4 ∷ 1 ∷ []) $ by ! (exits (fs .1 .1 .1 .1 .0) ek found)))))))))))))
 
