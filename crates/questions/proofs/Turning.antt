@@ -73,10 +73,6 @@ module _ (fq fr : Bool) (ws q : List ℕ) where
       total′ : sofar′ ++ ((below ++ beside) ++ waits) ≡ hitsAt fq fr ws q p
       total′ = append-assoc (s .sofar) (t .nodes) _ ∙ ap (λ (l : List ℕ). s .sofar ++ l) (sym (append-assoc (t .nodes) (below ++ beside) waits) ∙ ap (λ (l : List ℕ). l ++ waits) (sym (t .left .gives))) ∙ s .total
 
-      -- there is less behind the points than before
-      pub lessens : sizeAt ws (v .down) + sizeAt ws (v .beside) < sizeAt ws (x .link)
-      lessens = t .left .fewer
-
       -- there is no child: the sibling is next
       pub passes : v .down ≡ 0 → ¬ (v .beside ≡ 0) → Turning marks₀ p marks′ (record { link = v .beside; skip = x .skip; place = x .place }) w
       passes z some = record {

@@ -236,7 +236,7 @@ fn try_point(
 
 // A point as it stands on the list.
 fn as_point(link: usize, skip: usize, place: usize) -> Point
-    requires { ⌜ (link ≤ 4608) × ((skip ≤ 231) × (place ≤ 32)) ⌝ }
+    requires { ⌜ Small link skip place ⌝ }
     ensures { λ r. ⌜ r ≡ record { link = link; skip = skip; place = place } ⌝ }
 {
     Point {
@@ -267,7 +267,7 @@ fn ended(p: Point, depth: usize) -> Points
     }
 }
 
-// A turn ends where a node leaves a sibling and a child while a point waits: the three stand on the list.
+// A turn ends where a node leaves a sibling and a child while a point waits: the three go on the list.
 fn parted(
     waits: usize,
     waits_skip: usize,

@@ -1,14 +1,14 @@
 -- Each way through the loop leaves the sibling, the child, both or the point that waits, or is the turn's end.
 use borrow.Author.Needs.{needs}
 use mathlib.Core.Path.{_≡_, refl, _∙_}
-use Prim.Native.Nat.{ℕ, _+_, _≤_, _<_, _^_}
+use Prim.Native.Nat.{ℕ, _+_, _<_, _^_}
 use native.Mathlib.Omega.{arith}
 use lib.ListN.{length, getD}
 use Rattle.questions.specs.declared.Point.{Point}
 use Rattle.questions.specs.Promises.{sizeAt, Ready, Small}
 use Rattle.questions.proofs.Threads.{in-tree}
 use Rattle.questions.proofs.Leaving.{few-here}
-use Rattle.questions.proofs.Turning.{Turning, begins, ends, lessens, passes, turns-back, back-less, descends, leaves-one, parts-here}
+use Rattle.questions.proofs.Turning.{Turning, begins, ends, passes, turns-back, back-less, descends, leaves-one, parts-here}
 use Rattle.questions.proofs.turn.Statement.{statement}
 use Rattle.questions.proofs.turn.Tie as tie
 
