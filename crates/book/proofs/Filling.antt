@@ -14,9 +14,6 @@ use Rattle.book.specs.Memory.{blankNumber, formOf}
 abbrev pub Filled : List ℕ → ℕ → (ℕ → ℕ) → Type 0
 Filled l i g = (k : ℕ) → k < i → getD l k 0 ≡ g k
 
-pub filled-none : (l : List ℕ) (g : ℕ → ℕ) → Filled l 0 g
-filled-none l g k h = absurd (omega arith)
-
 pub filled-more : (l l′ : List ℕ) (i x : ℕ) (g : ℕ → ℕ) → i < length l → l′ ≡ set l i x → x ≡ g i → Filled l i g → Filled l′ (i + 1) g
 filled-more l l′ i x g h s e f k b = ap (λ (z : List ℕ). getD z k 0) s ∙ go (ℕ-discrete k i)
   where

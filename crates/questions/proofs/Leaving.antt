@@ -78,9 +78,6 @@ module _ (ws : List ℕ) (words : (i : ℕ) → getD ws i 0 < 2 ^ 64) (x : ℕ) 
   pub beside-height : heightAt ws (nextOf (getD ws (72 + x) 0)) ≤ heightAt ws x
   beside-height = let h = ap height opened in omega arith
 
-  pub some-height : 0 < heightAt ws x
-  some-height = let h = below-height in omega arith
-
   module _ (fq fr : Bool) (q : List ℕ) (skip place : ℕ) where
     here : hits (next fq fr) (good fq fr) (view ws .tree) (walkBefore q skip place) (trie (view ws .tree) x)
         ≡ keep (good fq fr (walkAfter fq fr q w skip place)) n ++ (hits (next fq fr) (good fq fr) (view ws .tree) (walkAfter fq fr q w skip place) (trie (view ws .tree) (firstOf w)) ++ hits (next fq fr) (good fq fr) (view ws .tree) (walkBefore q skip place) (trie (view ws .tree) (nextOf w)))

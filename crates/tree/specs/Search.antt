@@ -1,14 +1,14 @@
--- A search over the unfolded tree that keeps a state: it finds exactly the used nodes whose row is accepted, with one point a level on its list
+-- A search over the unfolded tree that keeps a state: it finds exactly the used nodes whose row is accepted
 use mathlib.Core.Path.{_≡_, refl, sym, ap, _∙_, subst}
 use mathlib.Core.Logic.{_⊎_, inl, inr}
 use mathlib.Core.List.{List, [], _∷_, _++_, map, append-assoc, reverse, reverse-cons, List·Memᴰ, List·Memᴰ·head, List·Memᴰ·tail, List·Memᴰ·cases-cons, List·Memᴰ·append-cases, List·Memᴰ·not-nil, Memᴰ·append-left, Memᴰ·append-right, Memᴰ·cast, Memᴰ·map}
 use mathlib.Core.Bool.{Bool, true, false}
-use Prim.Native.Nat.{ℕ, zero, suc, _+_, _≤_, _<_}
+use Prim.Native.Nat.{ℕ, suc, _+_}
 use native.Mathlib.Omega.{arith}
 use Rattle.term.specs.Beginnings.{Distinct}
-use Rattle.tree.specs.Shape.{Shape, Used, Up, Tree}
-use Rattle.tree.specs.Trie.{Trie, tip, node, trie, rows, height, Bounded, FUEL}
-use Rattle.tree.specs.Unfolded.{no-trie, opens, holds, node-once}
+use Rattle.tree.specs.Shape.{Shape, Up, Tree}
+use Rattle.tree.specs.Trie.{Trie, tip, node, trie, rows, Bounded}
+use Rattle.tree.specs.Unfolded.{holds, node-once}
 
 abbrev pub keep : Bool → ℕ → List ℕ
 keep true n = n ∷ []
@@ -111,56 +111,3 @@ module _ {S : Type 0} (step : ℕ → S → S) (good : S → Bool) where
 
     pub found-once : Distinct found
     found-once = subst (λ (l : List ℕ). Distinct l) (sym (hits-are m s [] (trie m (m .first 0)))) (accepted-distinct s (rows m [] (trie m (m .first 0))) (node-once m t b))
-
-  -- ---- the list of points: point j is the link at j with the state before it
-
-  module _ (m : Shape) where
-    -- what the first k points have yet to give, and the turns that they take
-    abbrev pub pending : ℕ → (ℕ → ℕ) → (ℕ → S) → List ℕ
-    pending zero at st = []
-    pending (suc k) at st = hits m (st k) (trie m (at k)) ++ pending k at st
-
-    abbrev pub work : ℕ → (ℕ → ℕ) → ℕ
-    work zero at = 0
-    work (suc k) at = size (trie m (at k)) + work k at
-
-    pub pending-same : (k : ℕ) {at at′ : ℕ → ℕ} {st st′ : ℕ → S} → ((j : ℕ) → j < k → at′ j ≡ at j) → ((j : ℕ) → j < k → st′ j ≡ st j)
-        → pending k at′ st′ ≡ pending k at st
-    pending-same zero ha hs = refl
-    pending-same (suc k) ha hs = rw (ha k (omega arith), hs k (omega arith), pending-same k (λ j h. ha j (omega arith)) (λ j h. hs j (omega arith)))
-
-    pub work-same : (k : ℕ) {at at′ : ℕ → ℕ} → ((j : ℕ) → j < k → at′ j ≡ at j) → work k at′ ≡ work k at
-    work-same zero ha = refl
-    work-same (suc k) ha = rw (ha k (omega arith), work-same k (λ j h. ha j (omega arith)))
-
-    module _ (t : Tree m) (b : Bounded m) (k : ℕ) (at : ℕ → ℕ) (st : ℕ → S) where
-      -- no node: the point goes
-      pub none-gives : at k ≡ 0 → pending (suc k) at st ≡ pending k at st
-      none-gives h = rw (h, no-trie m FUEL)
-
-      pub none-less : at k ≡ 0 → work k at < work (suc k) at
-      none-less h = rw (h, no-trie m FUEL) (omega arith)
-
-      module _ (n : ℕ) (e : at k ≡ suc n) (u : Used m n) where
-        opened : trie m (at k) ≡ node n (trie m (m .first (suc n))) (trie m (m .next n))
-        opened = ap (trie m) e ∙ opens m t b n u
-
-        pub fail-less : {at′ : ℕ → ℕ} → at′ k ≡ m .next n → ((j : ℕ) → j < k → at′ j ≡ at j) → work (suc k) at′ < work (suc k) at
-        fail-less hn ha = rw (opened, hn, work-same k ha) (omega arith)
-
-        -- it goes on: the sibling takes the node's place, and the child comes on top
-        pub child-gives : {at′ : ℕ → ℕ} {st′ : ℕ → S} → at′ k ≡ m .next n → st′ k ≡ st k → at′ (suc k) ≡ m .first (suc n) → st′ (suc k) ≡ step (m .cell n) (st k)
-            → ((j : ℕ) → j < k → at′ j ≡ at j) → ((j : ℕ) → j < k → st′ j ≡ st j)
-            → pending (suc k) at st ≡ keep (good (step (m .cell n) (st k))) n ++ pending (suc (suc k)) at′ st′
-        child-gives hn hs hc hc′ ha hst = rw (opened, hn, hs, hc, hc′, pending-same k ha hst) (simp append-assoc)
-
-        pub child-less : {at′ : ℕ → ℕ} → at′ k ≡ m .next n → at′ (suc k) ≡ m .first (suc n) → ((j : ℕ) → j < k → at′ j ≡ at j)
-            → work (suc (suc k)) at′ < work (suc k) at
-        child-less hn hc ha = rw (opened, hn, hc, work-same k ha) (omega arith)
-
-        -- a point's number is its level
-        pub height-next : k + height (trie m (at k)) ≤ 33 → k + height (trie m (m .next n)) ≤ 33
-        height-next h = let g = rw opened at h in omega arith
-
-        pub height-child : k + height (trie m (at k)) ≤ 33 → suc k + height (trie m (m .first (suc n))) ≤ 33
-        height-child h = let g = rw opened at h in omega arith
