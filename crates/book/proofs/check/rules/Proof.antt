@@ -1,6 +1,5 @@
--- Rule by rule: one that is refused is one that no memory which passes refuses, and each that is taken is one less.
-use borrow.Author.Needs.{needs}
 -- Rule by rule; each that is come to is one less of those left.
+use borrow.Author.Needs.{needs}
 use Prim.Native.Nat.{_-_}
 use native.Mathlib.Omega.{arith}
 use borrow.Author.Tests.{not-true, not-false}
