@@ -5,7 +5,7 @@ use mathlib.Core.Bool.{Bool, true, false}
 use Prim.Native.Nat.{ℕ, _+_, _-_, _≤_, _<_}
 use native.Mathlib.Omega.{arith}
 use native.Mathlib.Decide.{ℕ-discrete}
-use lib.Dec.{eqb}
+use lib.Dec.{eqb, leb, ltb}
 use lib.ListN.{length, take, drop, replicate}
 use lib.Seq.{take-append-seam}
 use Rattle.bits.specs.Numbers.{has}
@@ -14,8 +14,8 @@ use Rattle.term.specs.Machine.{fillsQuestion, fillsRule}
 use Rattle.book.specs.declared.Added.{Added}
 use Rattle.book.specs.declared.Added.the-variants.{Taken, HeldAlready, BookFull, NoNodes}
 use Rattle.book.specs.declared.Removed.{Removed}
-use Rattle.book.specs.Rules.{Held, nothing, rule, Rules, isHeld, withoutRule, addRefusal, after}
-use Rattle.book.specs.Memory.{view, Passing, rulesIn}
+use Rattle.book.specs.Rules.{Held, nothing, rule, Rules, isHeld, withRule, withoutRule, ruleCount, nodesOf, addRefusal, pickAdded, judged, after}
+use Rattle.book.specs.Memory.{Passing, rulesIn}
 use Rattle.book.specs.Promises.{Adds, Removes, removal, removeRefusal, Shows, shownSize, shownCells}
 use Rattle.book.specs.Facts.{limited}
 use Rattle.questions.specs.Asking.{numbers, answers}
@@ -24,14 +24,14 @@ use Rattle.questions.specs.Promises.{Asked, Lists}
 use Rattle.questions.specs.Listing.{numbers-answers}
 use Rattle.batch.specs.Records.{Record, bare, good}
 use Rattle.batch.specs.Commands.{Command, Add, Remove, Ask, Show, Room, Stops, modeOf, Change, Effect, tells, changeOf, adds, changeAt, removes, asks, shown, shows, counts, does}
-use Rattle.batch.specs.Promises.{Writes, Along, none, grown, shrunk, Becomes, Does}
-
-not-none : {c : Change} {cs : List Change} → c ∷ cs ≡ [] → ⊥
-not-none e = let z : _≡_ {A = ℕ} 0 1 = cc in omega arith
+use Rattle.batch.specs.Promises.{Writes, Along, none, then, Becomes, Does}
 
 -- nothing has changed
 pub stays : (ws : List ℕ) → Passing ws → Becomes ws ws (rulesIn ws) []
-stays ws p = record { passes = p; rules-are = refl; nodes = none; same = λ _. refl }
+stays ws p = record { passes = p; rules-are = refl; along = none }
+
+still : (ws ws′ : List ℕ) → ws′ ≡ ws → Along [] ws ws′
+still ws ws′ e = subst (λ (z : List ℕ). Along [] ws z) (sym e) none
 
 pub told : (ws out out′ : List ℕ) (n : ℕ) (r : Record) → Passing ws → Writes r out out′ n → Does (tells r (rulesIn ws)) ws ws out out′ n
 told ws out out′ n r p w = record { writes = w; fits = λ _. stays ws p; short = λ _. refl }
@@ -41,23 +41,30 @@ no-room-for ws out e h w = record { writes = w; fits = λ l. absurd (omega arith
 
 -- ---- adding
 
+-- a rule is taken only under a number that is free
+taken-free : (rules : Rules) (k : ℕ) (t : List ℕ) → judged rules k t ≡ Taken → rules k ≡ nothing
+taken-free rules k t = go (rules k)
+  where
+    go : (h : Held) → pickAdded (isHeld h) HeldAlready (pickAdded (leb 512 (ruleCount rules)) BookFull (pickAdded (ltb 4096 (nodesOf (withRule rules k t))) NoNodes Taken)) ≡ Taken → h ≡ nothing
+    go nothing e = refl
+    go (rule s) e = absurd (let z : _≡_ {A = ℕ} 0 1 = cc in omega arith)
+
 module _ (ws ws′ : List ℕ) (k : ℕ) (t : List ℕ) where
-  refused : (a : Added) → changeOf a ≡ [] → ¬ (a ≡ Taken) → Adds ws ws′ k t a → Becomes ws ws′ (after a (rulesIn ws) k t) (changeOf a)
-  refused a e d x = record {
+  refused : (a : Added) → changeOf a k t ≡ [] → ¬ (a ≡ Taken) → Adds ws ws′ k t a → Becomes ws ws′ (after a (rulesIn ws) k t) (changeOf a k t)
+  refused a e d x = record { passes = x .passes; rules-are = x .rules; along = subst (λ (cs : List Change). Along cs ws ws′) (sym e) (still ws ws′ (x .same d)) }
+
+  added : (a : Added) → Adds ws ws′ k t a → Becomes ws ws′ (after a (rulesIn ws) k t) (changeOf a k t)
+  added Taken x = record {
     passes = x .passes;
     rules-are = x .rules;
-    nodes = subst (λ (cs : List Change). Along cs (view ws .tree) (view ws′ .tree)) (sym e) (subst (λ (z : List ℕ). Along [] (view ws .tree) (view z .tree)) (sym (x .same d)) none);
-    same = λ _. x .same d;
+    along = then (record { was = taken-free (rulesIn ws) k t (sym (x .answer)); passes = x .passes; rules-are = x .rules; nodes = x .nodes }) none;
   }
-
-  added : (a : Added) → Adds ws ws′ k t a → Becomes ws ws′ (after a (rulesIn ws) k t) (changeOf a)
-  added Taken x = record { passes = x .passes; rules-are = x .rules; nodes = grown (x .nodes) none; same = λ e. absurd (not-none e) }
   added HeldAlready x = refused HeldAlready refl (λ e. let z : _≡_ {A = ℕ} 0 1 = cc in omega arith) x
   added BookFull x = refused BookFull refl (λ e. let z : _≡_ {A = ℕ} 0 1 = cc in omega arith) x
   added NoNodes x = refused NoNodes refl (λ e. let z : _≡_ {A = ℕ} 0 1 = cc in omega arith) x
 
   abbrev effect : Added → Effect
-  effect a = record { answer = bare (addRefusal a); rules = after a (rulesIn ws) k t; changes = changeOf a }
+  effect a = record { answer = bare (addRefusal a); rules = after a (rulesIn ws) k t; changes = changeOf a k t }
 
   pub add-done : (a : Added) (refusal : ℕ) (out out′ : List ℕ) (n : ℕ) → 0 < length out → Adds ws ws′ k t a → refusal ≡ addRefusal a → Writes (bare refusal) out out′ n → Does (adds (rulesIn ws) k t) ws ws′ out out′ n
   add-done a refusal out out′ n h x e w =
@@ -77,11 +84,13 @@ low-removal Rattle.book.specs.declared.Removed.the-variants.Gone = omega arith
 low-removal Rattle.book.specs.declared.Removed.the-variants.NotHeld = omega arith
 
 module _ (ws ws′ : List ℕ) (k : ℕ) (a : Removed) (x : Removes ws ws′ k a) where
-  removed : (h : Held) → rulesIn ws k ≡ h → Becomes ws ws′ (withoutRule (rulesIn ws) k) (changeAt h)
-  removed (rule t) e = record { passes = x .passes; rules-are = x .rules; nodes = shrunk (x .nodes) none; same = λ q. absurd (not-none q) }
-  removed nothing e =
-      let s = x .same (x .answer ∙ ap removal e) in
-      record { passes = x .passes; rules-are = x .rules; nodes = subst (λ (z : List ℕ). Along [] (view ws .tree) (view z .tree)) (sym s) none; same = λ _. s }
+  removed : (h : Held) → rulesIn ws k ≡ h → Becomes ws ws′ (withoutRule (rulesIn ws) k) (changeAt k h)
+  removed (rule t) e = record {
+    passes = x .passes;
+    rules-are = x .rules;
+    along = then (record { was = e; passes = x .passes; rules-are = x .rules; nodes = x .nodes }) none;
+  }
+  removed nothing e = record { passes = x .passes; rules-are = x .rules; along = still ws ws′ (x .same (x .answer ∙ ap removal e)) }
 
   pub remove-done : (refusal : ℕ) (out out′ : List ℕ) (n : ℕ) → 0 < length out → refusal ≡ removeRefusal a → Writes (bare refusal) out out′ n → Does (removes (rulesIn ws) k) ws ws′ out out′ n
   remove-done refusal out out′ n h e w = record {

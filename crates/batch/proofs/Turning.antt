@@ -6,34 +6,19 @@ use native.Mathlib.Omega.{arith}
 use native.Mathlib.Decide.{decLt}
 use lib.ListN.{length, take, drop, length-append, length-drop}
 use lib.Seq.{take-at, drop-at, drop-drop}
-use Rattle.tree.specs.Shape.{Shape}
 use Rattle.book.specs.Rules.{Rules}
 use Rattle.book.specs.Memory.{Passing, rulesIn}
 use Rattle.batch.specs.Records.{cellsOf, written}
 use Rattle.batch.specs.Commands.{Command, commandIn, termSize, stopOf, Change, Effect, does}
 use Rattle.batch.specs.Run.{Outcome, goesOn, run}
-use Rattle.batch.specs.Promises.{Along, none, grown, shrunk, Becomes, Does, Came, Ran}
-use Rattle.batch.specs.Laws.{run-none, run-10, run-stops, run-goes-on}
+use Rattle.batch.specs.Promises.{Becomes, Does, Came, Ran}
+use Rattle.batch.specs.Laws.{run-none, run-10, run-stops, run-goes-on, along-on}
 use Rattle.batch.proofs.Doing.{stays}
 
 -- ---- memory along the changes
 
-along : {cs ds : List Change} {m m₁ m′ : Shape} → Along cs m m₁ → Along ds m₁ m′ → Along (cs ++ ds) m m′
-along none b = b
-along (grown t a) b = grown t (along a b)
-along (shrunk t a) b = shrunk t (along a b)
-
-no-left : (cs ds : List Change) → cs ++ ds ≡ [] → cs ≡ []
-no-left [] ds e = refl
-no-left (c ∷ cs) ds e = absurd (let z : _≡_ {A = ℕ} 0 1 = cc in omega arith)
-
 becomes : (ws ws₁ ws′ : List ℕ) (rules rules′ : Rules) (cs ds : List Change) → Becomes ws ws₁ rules cs → Becomes ws₁ ws′ rules′ ds → Becomes ws ws′ rules′ (cs ++ ds)
-becomes ws ws₁ ws′ rules rules′ cs ds a b = record {
-  passes = b .passes;
-  rules-are = b .rules-are;
-  nodes = along (a .nodes) (b .nodes);
-  same = λ e. let l = no-left cs ds e in b .same (sym (ap (λ (z : List Change). z ++ ds) l) ∙ e) ∙ a .same l;
-}
+becomes ws ws₁ ws′ rules rules′ cs ds a b = record { passes = b .passes; rules-are = b .rules-are; along = along-on (a .along) (b .along) }
 
 -- ---- no commands
 

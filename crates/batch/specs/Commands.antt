@@ -8,7 +8,7 @@ use Rattle.term.specs.Questions.{Mode, variants, instances, generalisations, un
 use Rattle.term.specs.Reading.{readTerm, refusalOf}
 use Rattle.term.specs.declared.reading.Reading.{Reading}
 use Rattle.term.specs.declared.reading.Reading.the-variants.{Whole, Refused}
-use Rattle.book.specs.Rules.{Held, nothing, rule, Rules, withoutRule, ruleCount, nodesOf, addRefusal, judged, after}
+use Rattle.book.specs.Rules.{Held, nothing, rule, Rules, withRule, withoutRule, ruleCount, nodesOf, addRefusal, judged, after}
 use Rattle.book.specs.declared.Added.{Added}
 use Rattle.book.specs.declared.Added.the-variants.{Taken, HeldAlready, BookFull, NoNodes}
 use Rattle.book.specs.Promises.{removal, removeRefusal}
@@ -75,10 +75,23 @@ modeOf kind = pickMode (eqb kind 2) variants (pickMode (eqb kind 3) instances (p
 
 -- ---- doing
 
--- How the set of rules changes: by one rule more, or one less.
+-- How the set of rules changes: by one rule more, or one less, with its number and its term.
 pub data Change : Type 0 where
-  more : Change
-  less : Change
+  more : (number : ℕ) (term : List ℕ) → Change
+  less : (number : ℕ) (term : List ℕ) → Change
+
+abbrev pub changedNumber : Change → ℕ
+changedNumber (more k term) = k
+changedNumber (less k term) = k
+
+-- What stands under that number before the change, and the rules after it.
+abbrev pub heldBefore : Change → Held
+heldBefore (more k term) = nothing
+heldBefore (less k term) = rule term
+
+abbrev pub changed : Change → Rules → Rules
+changed (more k term) rules = withRule rules k term
+changed (less k term) rules = withoutRule rules k
 
 -- What a command does: its record, the rules after it, and the changes, none or one.
 pub record Effect : Type 0 where
@@ -90,25 +103,25 @@ pub record Effect : Type 0 where
 abbrev pub tells : Record → Rules → Effect
 tells answer rules = record { answer = answer; rules = rules; changes = [] }
 
-abbrev pub changeOf : Added → List Change
-changeOf Taken = more ∷ []
-changeOf HeldAlready = []
-changeOf BookFull = []
-changeOf NoNodes = []
+abbrev pub changeOf : Added → ℕ → List ℕ → List Change
+changeOf Taken k term = more k term ∷ []
+changeOf HeldAlready k term = []
+changeOf BookFull k term = []
+changeOf NoNodes k term = []
 
 abbrev pub adds : Rules → ℕ → List ℕ → Effect
 adds rules k term = record {
   answer = bare (addRefusal (judged rules k term));
   rules = after (judged rules k term) rules k term;
-  changes = changeOf (judged rules k term);
+  changes = changeOf (judged rules k term) k term;
 }
 
-abbrev pub changeAt : Held → List Change
-changeAt nothing = []
-changeAt (rule term) = less ∷ []
+abbrev pub changeAt : ℕ → Held → List Change
+changeAt k nothing = []
+changeAt k (rule term) = less k term ∷ []
 
 abbrev pub removes : Rules → ℕ → Effect
-removes rules k = record { answer = bare (removeRefusal (removal (rules k))); rules = withoutRule rules k; changes = changeAt (rules k) }
+removes rules k = record { answer = bare (removeRefusal (removal (rules k))); rules = withoutRule rules k; changes = changeAt k (rules k) }
 
 -- The rule numbers that answer, ascending.
 abbrev pub asks : Rules → ℕ → List ℕ → Effect

@@ -1,6 +1,6 @@
 -- Laws of what a command says and of what a batch is.
 use mathlib.Core.Path.{_≡_, refl, sym, ap, _∙_}
-use mathlib.Core.List.{List, [], _∷_, append-nil}
+use mathlib.Core.List.{List, [], _∷_, _++_, append-nil}
 use mathlib.Core.Bool.{Bool, true, false}
 use Prim.Native.Nat.{ℕ, zero, suc, _-_, _≤_, _<_}
 use native.Mathlib.Omega.{arith}
@@ -15,9 +15,9 @@ use Rattle.term.specs.declared.reading.Reading.{Reading}
 use Rattle.term.specs.declared.reading.Reading.the-variants.{Whole, Refused}
 use Rattle.book.specs.Rules.{Rules}
 use Rattle.book.specs.Promises.{IsTerm}
-use Rattle.batch.specs.Commands.{Command, Add, Remove, Ask, Show, Room, Stops, pickCommand, withTerm, withNumber0, commandOf, commandIn, termSize, stopOf, Effect, does}
+use Rattle.batch.specs.Commands.{Command, Add, Remove, Ask, Show, Room, Stops, pickCommand, withTerm, withNumber0, commandOf, commandIn, termSize, stopOf, Change, Effect, does}
 use Rattle.batch.specs.Run.{Outcome, pickOutcome, ends, endsWith, goesOn, oneOf, runFrom, run}
-use Rattle.batch.specs.Promises.{Read}
+use Rattle.batch.specs.Promises.{Read, Along, none, then}
 
 -- ---- the kinds
 
@@ -146,3 +146,14 @@ module _ (rules : Rules) (c : ℕ) (behind : List ℕ) (room : ℕ) where
   run-goes-on h e =
       fits h ∙ ap (λ (b : Bool). pickOutcome b (goesOn (suc (termSize command)) effect later) (endsWith (stopOf command) effect)) (eq-eqb (stopOf command) 0 e)
       ∙ ap (goesOn (suc (termSize command)) effect) (skipped (termSize command) (effect .rules) behind (room - suc (length (effect .answer .cells))))
+
+-- ---- memories along changes
+
+pub along-on : {cs ds : List Change} {ws ws₁ ws′ : List ℕ} → Along cs ws ws₁ → Along ds ws₁ ws′ → Along (cs ++ ds) ws ws′
+along-on none b = b
+along-on (then c a) b = then c (along-on a b)
+
+-- without a change it is the same, word for word
+pub unchanged : {cs : List Change} {ws ws′ : List ℕ} → Along cs ws ws′ → cs ≡ [] → ws′ ≡ ws
+unchanged none e = refl
+unchanged (then c a) e = absurd (let z : _≡_ {A = ℕ} 0 1 = cc in omega arith)

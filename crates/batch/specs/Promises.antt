@@ -10,7 +10,7 @@ use Rattle.book.specs.Rules.{Rules}
 use Rattle.book.specs.Memory.{view, Passing, rulesIn}
 use Rattle.book.specs.Promises.{TakesLowest, TakesNone}
 use Rattle.batch.specs.Records.{Record, cellsOf, written}
-use Rattle.batch.specs.Commands.{Command, Add, Remove, Ask, Show, Room, Stops, Change, more, less, Effect}
+use Rattle.batch.specs.Commands.{Command, Add, Remove, Ask, Show, Room, Stops, Change, more, less, changedNumber, heldBefore, changed, Effect}
 use Rattle.batch.specs.Run.{Outcome, run}
 
 -- What is known of a command that was read, with the cells behind its command cell.
@@ -27,18 +27,28 @@ pub record Writes (r : Record) (out out′ : List ℕ) (n : ℕ) : Type 0 where
   pub fits : length (r .cells) < length out → (n ≡ suc (length (r .cells))) × (out′ ≡ cellsOf r ++ drop n out)
   pub short : length out ≤ length (r .cells) → (n ≡ 0) × (out′ ≡ out)
 
--- The nodes along the changes of the rules: one rule more takes the lowest free nodes, one less takes none.
-pub data Along : List Change → Shape → Shape → Type 0 where
-  none : {m : Shape} → Along [] m m
-  grown : {m m₁ m′ : Shape} {cs : List Change} → TakesLowest m m₁ → Along cs m₁ m′ → Along (more ∷ cs) m m′
-  shrunk : {m m₁ m′ : Shape} {cs : List Change} → TakesNone m m₁ → Along cs m₁ m′ → Along (less ∷ cs) m m′
+-- One change of the book, from a memory to the next: that rule comes or goes and no other does, and the nodes that come into use are the free ones
+-- of lowest number, or none.
+abbrev pub TakesNodes : Change → Shape → Shape → Type 0
+TakesNodes (more k term) m m′ = TakesLowest m m′
+TakesNodes (less k term) m m′ = TakesNone m m′
 
--- The memory afterwards passes and holds the rules; along the changes; and without any it is the same, word for word.
+pub record Changes (c : Change) (ws ws′ : List ℕ) : Type 0 where
+  pub was : rulesIn ws (changedNumber c) ≡ heldBefore c
+  pub passes : Passing ws′
+  pub rules-are : rulesIn ws′ ≡ changed c (rulesIn ws)
+  pub nodes : TakesNodes c (view ws .tree) (view ws′ .tree)
+
+-- Memories along the changes of the rules, one after another; without any it is the same, word for word.
+pub data Along : List Change → List ℕ → List ℕ → Type 0 where
+  none : {ws : List ℕ} → Along [] ws ws
+  then : {ws ws₁ ws′ : List ℕ} {c : Change} {cs : List Change} → Changes c ws ws₁ → Along cs ws₁ ws′ → Along (c ∷ cs) ws ws′
+
+-- The memory afterwards passes and holds the rules, and came about along the changes.
 pub record Becomes (ws ws′ : List ℕ) (rules : Rules) (changes : List Change) : Type 0 where
   pub passes : Passing ws′
   pub rules-are : rulesIn ws′ ≡ rules
-  pub nodes : Along changes (view ws .tree) (view ws′ .tree)
-  pub same : changes ≡ [] → ws′ ≡ ws
+  pub along : Along changes ws ws′
 
 -- A command is done, and its record written; or there is no room for it, and nothing has changed.
 pub record Does (e : Effect) (ws ws′ out out′ : List ℕ) (n : ℕ) : Type 0 where

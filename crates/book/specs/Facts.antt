@@ -16,6 +16,7 @@ use Rattle.term.specs.Whole.{whole-alone}
 use Rattle.term.specs.declared.reading.Reading.the-variants.{Whole}
 use Rattle.tree.specs.Shape.{Used, Up, Passes}
 use Rattle.tree.specs.Rows.{up-same, up-one}
+use Rattle.tree.specs.Tally.{tally}
 use Rattle.tree.specs.Tallies.{listed, tally-le}
 use Rattle.tree.specs.Leaves.{ends, bases, numbered}
 use Rattle.tree.specs.NodeCount.{Numbered}
@@ -110,9 +111,13 @@ module _ (ws : List ℕ) (p : Passing ws) where
     one-node = λ m n r x y. let e = up-one (by .tree) x y in omega arith;
   }
 
+  -- the nodes in use are as many as the node count says
+  pub nodes-in-use : tally (view ws .tree .used) 4096 ≡ nodesOf (rulesIn ws)
+  nodes-in-use = sym (nodes-tally (view ws) low (p .right))
+
   -- the count of set bits is the node count
   pub bits-set : sum (bits (nodeMap (take 4681 ws))) ≡ nodesOf (rulesIn ws)
-  bits-set = nodes-held (take 4681 ws) long ∙ sym (nodes-tally (view ws) low (p .right))
+  bits-set = nodes-held (take 4681 ws) long ∙ nodes-in-use
 
 -- ---- one outcome
 

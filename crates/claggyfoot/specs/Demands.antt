@@ -1,131 +1,191 @@
--- What is promised to those who link this library: the three demands, one outcome for each call, and what the promise of a batch keeps out.
+-- What is promised to those who link this library: the three demands, and one outcome for each call. It can be read from top to bottom beside the
+-- table of refusals.
 --
 -- Each of the six exported functions is proved, for any memory and any bytes, to end, to do nothing undefined and to keep its promise; none of
 -- them asks anything of its caller (crates/claggyfoot/src/lib.rt). The promise of a batch is `Runs`: memory that does not pass is turned away;
--- else what comes of it is `run`, a function of the set of rules, the cells and the room. The theorems here are about these two.
+-- else what comes of it is `run`, a function of the set of rules, the cells and the room.
+--
+-- A theorem on a refusal is `Exactly is condition follows`: the refusal is given exactly when the condition holds, and then all that follows holds:
+-- the numbers answered, every output cell, byte and word. `CameTo call s c behind` says of which command: the call comes to the stage s, where the
+-- command cell is c, with the cells behind it (specs/Stages, specs/Calls).
 use mathlib.Core.Path.{_≡_, refl, sym, ap, ap₂, _∙_, subst}
-use mathlib.Core.Logic.{inl, inr, _↔_}
-use mathlib.Core.List.{List, [], _∷_, _++_, append-assoc, List·Memᴰ}
-use Prim.Native.Nat.{ℕ, suc, _+_, _-_, _/_, _%_, _≤_, _<_}
+use mathlib.Core.Logic.{_⊎_, inl, inr, _↔_}
+use mathlib.Core.List.{List, [], _∷_, _++_, append-nil, List·Memᴰ}
+use Prim.Native.Nat.{ℕ, zero, suc, _+_, _-_, _*_, _/_, _%_, _≤_, _<_}
 use native.Mathlib.Omega.{arith}
 use native.Mathlib.Decide.{ℕ-discrete, decLt}
-use lib.ListN.{length, take, drop}
+use lib.ListN.{length, getD, take, drop, length-drop}
 use lib.Seq.{take-at}
 use Rattle.term.specs.Questions.{instances, generalisations}
-use Rattle.book.specs.Rules.{nothing, rule, Rules, withRule, ruleCount, nodesOf, addRefusal, judged}
+use Rattle.term.specs.declared.reading.Fault.the-variants.{TooLong, CutShort, FieldSet, AboveFifteen, AboveCount}
+use Rattle.names.specs.Name.{IsName}
+use Rattle.names.specs.Table.{Holds, Missing, put}
+use Rattle.names.specs.Table.{Passes as PassesTable}
+use Rattle.book.specs.declared.Added.the-variants.{Taken}
+use Rattle.book.specs.Rules.{nothing, rule, Rules, withRule, ruleCount, nodesOf, judged}
 use Rattle.book.specs.Memory.{Passing, rulesIn}
-use Rattle.book.specs.Promises.{IsTerm, Empties, removal, removeRefusal}
-use Rattle.book.specs.Facts.{empty-passes, limited, empties-once}
+use Rattle.book.specs.Promises.{IsTerm, Empties}
+use Rattle.book.specs.Facts.{empty-passes, empties-once}
 use Rattle.questions.specs.Asking.{Ordered, answers, Listed}
 use Rattle.questions.specs.Demand2.{WholeRules, lists, ordered, never-more, other-way-listed}
-use Rattle.batch.specs.Records.{Record, bare, good, written}
+use Rattle.batch.specs.Records.{Record, good, written}
 use Rattle.batch.specs.declared.reader.Command.{Command}
-use Rattle.batch.specs.declared.reader.Command.the-variants.{Ask, Stops}
-use Rattle.batch.specs.Commands.{commandIn, termSize, stopOf, modeOf, Effect, shown, does}
-use Rattle.batch.specs.Run.{Outcome, ends, endsWith, run}
-use Rattle.batch.specs.Promises.{Read, Came, Ran, Turned-away, Runs, ran, turned-away, passing}
-use Rattle.batch.specs.Laws.{whole-behind, read-of, rest, run-10, run-stops, run-goes-on}
-use Rattle.claggyfoot.specs.Refusals.{Wrong, TakesTerm, FaultIs, Held-already, StopNumber, Ends, two, term-fault, six, eight, nine, seven-removed, seven-shown, refused-stays, batch-ends}
-use Rattle.claggyfoot.specs.Wholeness.{does-whole}
+use Rattle.batch.specs.declared.reader.Command.the-variants.{Ask}
+use Rattle.batch.specs.Commands.{commandIn, termSize, stopOf, modeOf, Effect, tells, does}
+use Rattle.batch.specs.Run.{Outcome, run}
+use Rattle.batch.specs.Promises.{Read, Along, Came, Ran, Turned-away, Runs, ran, turned-away, passing}
+use Rattle.batch.specs.Laws.{whole-behind, read-of, unchanged}
+use Rattle.claggyfoot.specs.Stages.{Stage, onward, does-rules, MemoryAt}
+use Rattle.claggyfoot.specs.Calls.{Exactly, Call, Kept, CameTo, effectOf, sizeOf, Idle, StopsHere, Answered, Ended, GoneOn, RefusedOn, StoppedBy, NodesTaken}
+use Rattle.claggyfoot.specs.Refusals.{Wrong, TakesTerm, Faulty, Adds-term, Names-rule, Held-already, StopNumber, Ends, fault-3, fault-4, fault-5, two, term-fault, six, eight, nine, add-refused, not-held, goes-on-with, batch-ends}
+use Rattle.claggyfoot.specs.AtCommand.{limits, answered, stops-exactly, refused-exactly, ten, gone-on, fault-exactly, add-exactly, nodes-taken, idle, idle-stays, idle-keeps}
+use Rattle.claggyfoot.specs.Naming.{Gave, Told, enter-1, enter-11, enter-12, enter-held, enter-new, name-of-1, name-of-13, name-of-held}
+use Rattle.claggyfoot.specs.Numbers.{EntersNumbers, StandsNumbers, ChecksNumber, passing as passing-number, failing}
 pub use Rattle.claggyfoot.specs.Numbers.{enters-numbers-once, stands-numbers-once, checks-number-once}
 
 -- ==== Demand 1: each refusal in the list comes exactly when its condition and the order call for it
 
--- 1: memory has a wrong length or does not pass. Then used and written are 0, and all memory is unchanged.
-pub refusal-1 : {ws ws′ cells out out′ : List ℕ} {stop used n : ℕ} → Runs ws ws′ cells out out′ stop used n → stop ≡ 1 ↔ ¬ (Passing ws)
-refusal-1 {ws} {ws′} {cells} {out} {out′} {stop} {used} {n} (ran p r) = (λ e. absurd (never (batch-ends (rulesIn ws) cells (length out) .number) (sym (r .stop-is) ∙ e)), λ f. absurd (f p))
+-- 1: memory has a wrong length or does not pass. No record; used and written are 0; all memory unchanged.
+pub refusal-1 : (call : Call) → Kept call → Exactly (call .stop ≡ 1) (¬ (Passing (call .book))) (Turned-away (call .book) (call .book′) (call .output) (call .output′) (call .stop) (call .used) (call .written-cells))
+refusal-1 call (ran p r) = ((λ e. absurd (never (batch-ends (rulesIn (call .book)) (call .cells) (length (call .output)) .number) (sym (r .stop-is) ∙ e)), λ f. absurd (f p)), λ f. absurd (f p))
   where
     never : {s : ℕ} → StopNumber s → s ≡ 1 → ⊥
     never (inl e) f = omega arith
     never (inr (inl x)) f = let a = x .0 in omega arith
     never (inr (inr e)) f = omega arith
-refusal-1 (turned-away f t) = (λ e. f, λ _. t .stop-is)
+refusal-1 call (turned-away f t) = ((λ e. f, λ _. t .stop-is), λ _. t)
 
-pub refusal-1-leaves : {ws ws′ cells out out′ : List ℕ} {stop used n : ℕ} → Runs ws ws′ cells out out′ stop used n → ¬ (Passing ws) → Turned-away ws ws′ out out′ stop used n
-refusal-1-leaves (ran p r) f = absurd (f p)
-refusal-1-leaves (turned-away g t) f = t
+-- .. making an empty book: 1 on a wrong length, with the memory unchanged; else 0
+pub refusal-1-empty : {ws ws′ : List ℕ} {r : ℕ} → Empties ws ws′ r → Exactly (r ≡ 1) (¬ (length ws ≡ 12618)) (ws′ ≡ ws)
+refusal-1-empty {ws} {ws′} {r} x = (((λ e f. absurd (let z = x .made f .0 in omega arith)), λ f. x .refused f .0), λ f. x .refused f .1)
 
-module _ (rules : Rules) (c : ℕ) (behind : List ℕ) (room : ℕ) where
-  -- the first command of some cells, and what it does
-  abbrev first : Command
-  first = commandIn (c ∷ behind)
+-- .. the check alone, which writes nothing
+pub refusal-1-passes : {ws : List ℕ} {r : ℕ} → ChecksNumber ws r → r ≡ 1 ↔ ¬ (Passing ws)
+refusal-1-passes (passing-number p e) = ((λ f. absurd (omega arith)), λ f. absurd (f p))
+refusal-1-passes (failing f e) = ((λ _. f), λ _. e)
 
-  abbrev effect : Effect
-  effect = does rules behind first
+-- .. entering a name, and the name of a number: the table. Refused, the number is 0 (start and length are 0), and every byte stays.
+pub refusal-1-enter : {table name table′ : List ℕ} {refusal number : ℕ} (call : EntersNumbers table name refusal number table′) → Exactly (refusal ≡ 1) (¬ (PassesTable table)) (Gave call 1 0 table)
+refusal-1-enter = enter-1
 
-  -- 2: kind 8 to 15, or number not 0 where it must be.
-  pub refusal-2 : first ≡ Stops 2 ↔ Wrong (c / 4096) (c % 4096)
-  refusal-2 = two (c / 4096) (c % 4096) behind
+pub refusal-1-name-of : {table : List ℕ} {number refusal start size : ℕ} (call : StandsNumbers table number refusal start size) → Exactly (refusal ≡ 1) (¬ (PassesTable table)) (Told call 1 0 0)
+refusal-1-name-of = name-of-1
 
-  -- 3, 4 and 5: the command takes a term, and the term is at fault; `readTerm` finds the first fault in reading order, at one place 5, 3, 4.
-  pub refusals-3-4-5 : (r : ℕ) → 3 ≤ r → first ≡ Stops r ↔ (TakesTerm (c / 4096) (c % 4096) × FaultIs r behind)
-  refusals-3-4-5 = term-fault (c / 4096) (c % 4096) behind
+-- Each command that a batch on a book that passes comes to.
+module _ {call : Call} {s : Stage} {c : ℕ} {behind : List ℕ} (at : CameTo call s c behind) where
+  abbrev kind : ℕ
+  kind = c / 4096
 
-  -- These stop the batch: one record without further cells, the command not counted as used, no rule changed.
-  pub refusals-stop : (r : ℕ) → ¬ (r ≡ 0) → first ≡ Stops r → 0 < room → run rules (c ∷ behind) room ≡ record { stop = r; used = 0; records = bare r ∷ []; rules = rules; changes = [] }
-  unfolding does
-  refusals-stop r n e h =
-      let same : effect ≡ does rules behind (Stops r) = ap (does rules behind) e in
-      let few : length (effect .answer .cells) < room = subst (λ (x : Effect). length (x .answer .cells) < room) (sym same) h in
-      run-stops rules c behind room few (λ z. n (sym (ap stopOf e) ∙ z)) ∙ ap₂ endsWith (ap stopOf e) same
+  abbrev number : ℕ
+  number = c % 4096
 
-  -- 10: the record doesn't fit in the output left. No record, no effect, stop; it replaces any record, good or refused.
-  pub refusal-10 : run rules (c ∷ behind) room ≡ ends 10 rules ↔ room ≤ length (effect .answer .cells)
-  refusal-10 = (λ e. to (decLt (length (effect .answer .cells)) room) e, run-10 rules c behind room)
-    where
-      -- a record that fits is written
-      some : (r : Record) (rs : List Record) → r ∷ rs ≡ [] → ⊥
-      some r rs e = let z : _≡_ {A = ℕ} 0 1 = cc in omega arith
+  -- the cells behind its command cell that are its own, and with an add its term
+  abbrev size : ℕ
+  size = sizeOf c behind
 
-      fits : length (effect .answer .cells) < room → Dec (stopOf first ≡ 0) → run rules (c ∷ behind) room ≡ ends 10 rules → ⊥
-      fits l (yes z) e = some _ _ (ap (λ (o : Outcome). o .records) (sym (run-goes-on rules c behind room l z) ∙ e))
-      fits l (no z) e = some _ _ (ap (λ (o : Outcome). o .records) (sym (run-stops rules c behind room l z) ∙ e))
+  abbrev term : List ℕ
+  term = take size behind
 
-      to : Dec (length (effect .answer .cells) < room) → run rules (c ∷ behind) room ≡ ends 10 rules → room ≤ length (effect .answer .cells)
-      to (yes l) e = absurd (fits l (ℕ-discrete (stopOf first) 0) e)
-      to (no l) e = omega arith
+  -- 2: kind 8 to 15, or number not 0 where it must be. Record 2000, stop.
+  pub refusal-2 : Exactly (StopsHere call s 2) ((0 < s .room) × Wrong kind number) (StoppedBy call s 2)
+  refusal-2 = stops-exactly at 2 (λ e. absurd (omega arith)) (λ e. absurd (omega arith)) (two kind number behind)
 
-  -- A refused command never changes the book; nor does any command but an add or a remove.
-  pub refused-never-changes : ¬ (effect .answer .refusal ≡ 0) → effect .changes ≡ []
-  refused-never-changes = refused-stays rules behind first
+  -- 3: the cells end while a subterm is wanted. Record 3000, stop.
+  pub refusal-3 : Exactly (StopsHere call s 3) ((0 < s .room) × (TakesTerm kind number × Faulty CutShort behind)) (StoppedBy call s 3)
+  refusal-3 = fault-exactly at 3 (omega arith) (λ e. absurd (omega arith)) (fault-3 behind)
 
--- 6, 8 and 9, in this order: the number is already held; 512 rules are held; the node count with the rule would pass 4,096.
-pub refusal-6 : (rules : Rules) (k : ℕ) (term : List ℕ) → addRefusal (judged rules k term) ≡ 6 ↔ Held-already rules k
-refusal-6 = six
+  -- 4: a variable cell with a bit of its 3-bit field set, a number above 15, or a number above the count of variables so far. Record 4000, stop.
+  pub refusal-4 : Exactly (StopsHere call s 4) ((0 < s .room) × (TakesTerm kind number × (Faulty FieldSet behind ⊎ (Faulty AboveFifteen behind ⊎ Faulty AboveCount behind)))) (StoppedBy call s 4)
+  refusal-4 = fault-exactly at 4 (omega arith) (λ e. absurd (omega arith)) (fault-4 behind)
 
-pub refusal-8 : (rules : Rules) (k : ℕ) (term : List ℕ) → addRefusal (judged rules k term) ≡ 8 ↔ ((rules k ≡ nothing) × (512 ≤ ruleCount rules))
-refusal-8 = eight
+  -- 5: 32 cells read, a subterm still wanted. Record 5000, stop.
+  pub refusal-5 : Exactly (StopsHere call s 5) ((0 < s .room) × (TakesTerm kind number × Faulty TooLong behind)) (StoppedBy call s 5)
+  refusal-5 = fault-exactly at 5 (omega arith) (λ e. absurd (omega arith)) (fault-5 behind)
 
-pub refusal-9 : (rules : Rules) (k : ℕ) (term : List ℕ) → addRefusal (judged rules k term) ≡ 9 ↔ ((rules k ≡ nothing) × (ruleCount rules < 512) × (4096 < nodesOf (withRule rules k term)))
-refusal-9 = nine
+  -- 6: add, number already held. Record 6000, go on.
+  pub refusal-6 : Exactly (Answered call s 6) ((0 < s .room) × (Adds-term kind behind size × Held-already (s .rules) number)) (RefusedOn call s 6 c behind)
+  refusal-6 = add-exactly at 6 (omega arith) (λ e. absurd (omega arith)) (six (s .rules) number term)
 
--- 7: remove or show of a number that is not held.
-pub refusal-7 : (rules : Rules) (k : ℕ) → (removeRefusal (removal (rules k)) ≡ 7 ↔ rules k ≡ nothing) × (shown (rules k) .refusal ≡ 7 ↔ rules k ≡ nothing)
-refusal-7 rules k = (seven-removed (rules k), seven-shown (rules k))
+  -- 7: remove, show: number not held. Record 7000, go on.
+  pub refusal-7 : Exactly (Answered call s 7) ((0 < s .room) × (Names-rule kind × (s .rules number ≡ nothing))) (RefusedOn call s 7 c behind)
+  refusal-7 = refused-exactly at 7 (λ e. absurd (omega arith)) (goes-on-with (s .rules) kind number behind 7 (λ x. let a = x .1 in omega arith)) (not-held (s .rules) kind number behind)
+
+  -- 8: add, 512 rules held (and not 6). Record 8000, go on.
+  pub refusal-8 : Exactly (Answered call s 8) ((0 < s .room) × (Adds-term kind behind size × ((s .rules number ≡ nothing) × (512 ≤ ruleCount (s .rules))))) (RefusedOn call s 8 c behind)
+  refusal-8 = add-exactly at 8 (omega arith) (λ e. absurd (omega arith)) (eight (s .rules) number term)
+
+  -- 9: add, node count with the rule would pass 4,096 (and neither 6 nor 8). Record 9000, go on.
+  pub refusal-9 : Exactly (Answered call s 9) ((0 < s .room) × (Adds-term kind behind size × ((s .rules number ≡ nothing) × (ruleCount (s .rules) < 512) × (4096 < nodesOf (withRule (s .rules) number term))))) (RefusedOn call s 9 c behind)
+  refusal-9 = add-exactly at 9 (omega arith) (λ e. absurd (omega arith)) (nine (s .rules) number term)
+
+  -- 10: the record, good or refused, doesn't fit in the output left. No record, no effect, stop.
+  pub refusal-10 : Exactly (StopsHere call s 10) (s .room ≤ length (effectOf s c behind .answer .cells)) (Ended call s 10 (s .records))
+  refusal-10 = ten at
+
+  -- A command that is not refused: its record is the one that `does` says, the rules after it too, and the batch goes on.
+  pub not-refused : Exactly (Answered call s 0) ((length (effectOf s c behind .answer .cells) < s .room) × (effectOf s c behind .answer .refusal ≡ 0)) (GoneOn call s (effectOf s c behind .answer) (onward s size (effectOf s c behind) behind))
+  not-refused = (answered at 0, λ x. gone-on at (x .0) (goes-on-with (s .rules) kind number behind 0 (λ y. let a = y .0 in omega arith) (x .1)))
+
+  -- A refused command never changes the book, nor does one of kind 2 to 7: the same rules ..
+  pub refused-never-changes : Idle s c behind → effectOf s c behind .rules ≡ s .rules
+  refused-never-changes i = does-rules (s .rules) behind (commandIn (c ∷ behind)) (idle s c behind i)
+
+  -- .. and where the batch goes on the memory before it is the memory after it, word for word. (Where it stops there, see `memory-is` of `Ended`.)
+  pub refused-same-words : Idle s c behind → length (effectOf s c behind .answer .cells) < s .room → stopOf (commandIn (c ∷ behind)) ≡ 0
+      → (m : List ℕ) → MemoryAt (call .book) (call .book′) s m → MemoryAt (call .book) (call .book′) (onward s size (effectOf s c behind) behind) m
+  refused-same-words i = idle-stays at (idle s c behind i)
+
+  -- An add that takes effect: which nodes come into use.
+  pub new-nodes : 0 < s .room → Adds-term kind behind size → judged (s .rules) number term ≡ Taken → NodesTaken call s (onward s size (effectOf s c behind) behind)
+  new-nodes = nodes-taken at
+
+-- 11: no name: empty, over 31 bytes, a byte outside 32 to 126, or first or last byte a space. Number 0, every byte of the table as it was.
+pub refusal-11 : {table name table′ : List ℕ} {refusal number : ℕ} (call : EntersNumbers table name refusal number table′) → Exactly (refusal ≡ 11) (PassesTable table × ¬ (IsName name)) (Gave call 11 0 table)
+refusal-11 = enter-11
+
+-- 12: name not held, no free slot. Number 0, every byte of the table as it was.
+pub refusal-12 : {table name table′ : List ℕ} {refusal number : ℕ} (call : EntersNumbers table name refusal number table′)
+    → Exactly (refusal ≡ 12) ((names : List (List ℕ)) × Holds table names 0 × IsName name × Missing names name) (Gave call 12 0 table)
+refusal-12 = enter-12
+
+-- Not refused: a held name is found, in a full table too, and every byte stays; a new one is written over the first free slot, and every other byte stays.
+pub name-held : {table name table′ : List ℕ} {refusal number : ℕ} (call : EntersNumbers table name refusal number table′) (names : List (List ℕ)) (free k : ℕ)
+    → Holds table names free → k < length names → getD names k [] ≡ name → Gave call 0 k table
+name-held = enter-held
+
+pub name-new : {table name table′ : List ℕ} {refusal number : ℕ} (call : EntersNumbers table name refusal number table′) (names : List (List ℕ)) (free : ℕ)
+    → Holds table names free → IsName name → Missing names name → 0 < free → Gave call 0 (length names) (put table (length names) name)
+name-new = enter-new
+
+-- 13: name number not below the names held. Start 0 and length 0; the call only reads the table, as its type says.
+pub refusal-13 : {table : List ℕ} {number refusal start size : ℕ} (call : StandsNumbers table number refusal start size)
+    → Exactly (refusal ≡ 13) ((names : List (List ℕ)) × (free : ℕ) × Holds table names free × (length names ≤ number)) (Told call 13 0 0)
+refusal-13 = name-of-13
+
+-- Not refused: where the name stands.
+pub name-stands : {table : List ℕ} {number refusal start size : ℕ} (call : StandsNumbers table number refusal start size) (names : List (List ℕ)) (free : ℕ)
+    → Holds table names free → number < length names → Told call 0 (32 * number + 1) (length (getD names number []))
+name-stands = name-of-held
 
 -- A batch on a book that passes stops with 0, 2, 3, 4, 5 or 10; with 0 exactly when all cells are used.
-pub stops-so : (rules : Rules) (cells : List ℕ) (room : ℕ) → Ends (run rules cells room) (length cells)
-stops-so = batch-ends
+pub stops-so : (call : Call) → Kept call → Passing (call .book) → StopNumber (call .stop) × (call .stop ≡ 0 ↔ call .used ≡ length (call .cells))
+stops-so call k p = (subst StopNumber (sym (x .stop-is)) (e .number), ((λ z. x .used-is ∙ e .all (sym (x .stop-is) ∙ z)), (λ u. go u (ℕ-discrete (call .stop) 0))))
+  where
+    x : Ran (call .book) (call .book′) (call .cells) (call .output) (call .output′) (call .stop) (call .used) (call .written-cells)
+    x = passing k p
+
+    e : Ends (run (rulesIn (call .book)) (call .cells) (length (call .output))) (length (call .cells))
+    e = batch-ends (rulesIn (call .book)) (call .cells) (length (call .output))
+
+    go : call .used ≡ length (call .cells) → Dec (call .stop ≡ 0) → call .stop ≡ 0
+    go u (yes z) = z
+    go u (no z) = absurd (let l = e .not-all (λ q. z (x .stop-is ∙ q)) in let v = x .used-is in omega arith)
+
+-- A batch of refused commands and of commands of kind 2 to 7 only: every word of the book stays.
+pub batch-keeps : (call : Call) → Kept call → ((s : Stage) (c : ℕ) (behind : List ℕ) → CameTo call s c behind → Idle s c behind) → call .book′ ≡ call .book
+batch-keeps = idle-keeps
 
 -- ==== Demand 2: a question lists exactly the rules that answer by the published meaning, ascending, each once
-
--- The commands of a batch in turn: after these records, with these rules, the batch goes on at these cells, with so much room left.
-pub data Reaches (rules : Rules) (cells : List ℕ) (room : ℕ) : List Record → Rules → List ℕ → ℕ → Type 0 where
-  start : Reaches rules cells room [] rules cells room
-  next : {rs : List Record} {rules′ : Rules} {c : ℕ} {behind : List ℕ} {room′ : ℕ} → Reaches rules cells room rs rules′ (c ∷ behind) room′
-      → stopOf (commandIn (c ∷ behind)) ≡ 0 → length (does rules′ behind (commandIn (c ∷ behind)) .answer .cells) < room′
-      → Reaches rules cells room (rs ++ (does rules′ behind (commandIn (c ∷ behind)) .answer ∷ [])) (does rules′ behind (commandIn (c ∷ behind)) .rules) (drop (termSize (commandIn (c ∷ behind))) behind)
-      (room′ - suc (length (does rules′ behind (commandIn (c ∷ behind)) .answer .cells)))
-
-reached : {rules rules′ : Rules} {cells cells′ : List ℕ} {room room′ : ℕ} {rs : List Record} → Reaches rules cells room rs rules′ cells′ room′ → run rules cells room .records ≡ rs ++ run rules′ cells′ room′ .records
-reached start = refl
-reached {rules} {cells = cells} {room = room} (next {rs} {rules′} {c} {behind} {room′} before e l) =
-    reached before ∙ ap (λ (o : Outcome). rs ++ o .records) (run-goes-on rules′ c behind room′ l e)
-    ∙ sym (append-assoc rs (does rules′ behind (commandIn (c ∷ behind)) .answer ∷ []) _)
-
-still-whole : {rules rules′ : Rules} {cells cells′ : List ℕ} {room room′ : ℕ} {rs : List Record} → WholeRules rules → Reaches rules cells room rs rules′ cells′ room′ → WholeRules rules′
-still-whole w start = w
-still-whole w (next {rs} {rules′} {c} {behind} before e l) = does-whole rules′ c behind (still-whole w before)
 
 -- The list of a question: a number is in it exactly when there is a rule under it in the relation with the question; ascending, so each once; never more than there are rules.
 pub record ListsExactly (kind : ℕ) (question : List ℕ) (rules : Rules) (numbers : List ℕ) : Type 0 where
@@ -133,15 +193,14 @@ pub record ListsExactly (kind : ℕ) (question : List ℕ) (rules : Rules) (numb
   pub in-order : Ordered numbers
   pub few : length numbers ≤ ruleCount rules
 
--- Each question that a batch comes to has such a list for its record, written in full, where the list has room.
-pub demand-2 : {ws ws′ cells out out′ : List ℕ} {stop used n : ℕ} → Runs ws ws′ cells out out′ stop used n → Passing ws
-    → {rs : List Record} {rules : Rules} {c : ℕ} {behind : List ℕ} {room : ℕ} → Reaches (rulesIn ws) cells (length out) rs rules (c ∷ behind) room
-    → (kind size : ℕ) → commandIn (c ∷ behind) ≡ Ask kind size
-    → ListsExactly kind (take size behind) rules (answers (modeOf kind) (take size behind) rules)
-    × (length (answers (modeOf kind) (take size behind) rules) < room → (after : List Record) × (out′ ≡ written (rs ++ (good (answers (modeOf kind) (take size behind) rules) ∷ after)) ++ drop n out))
+-- Each question that a batch comes to has such a list for its record, written in full, where the list has room; and then the batch goes on with the same rules.
+pub demand-2 : {call : Call} {s : Stage} {c : ℕ} {behind : List ℕ} → CameTo call s c behind → (kind size : ℕ) → commandIn (c ∷ behind) ≡ Ask kind size
+    → ListsExactly kind (take size behind) (s .rules) (answers (modeOf kind) (take size behind) (s .rules))
+    × (length (answers (modeOf kind) (take size behind) (s .rules)) < s .room
+    → GoneOn call s (good (answers (modeOf kind) (take size behind) (s .rules))) (onward s size (tells (good (answers (modeOf kind) (take size behind) (s .rules))) (s .rules)) behind))
 unfolding does
-demand-2 {ws} {ws′} {cells} {out} {out′} {stop} {used} {n} runs p {rs} {rules} {c} {behind} {room} at kind size is =
-    (record { exactly = lists (modeOf kind) q rules w whole; in-order = ordered (modeOf kind) q rules; few = never-more (modeOf kind) q rules }, shown-there)
+demand-2 {call} {s} {c} {behind} at kind size is =
+    (record { exactly = lists (modeOf kind) q (s .rules) w (limits at .whole); in-order = ordered (modeOf kind) q (s .rules); few = never-more (modeOf kind) q (s .rules) }, there)
   where
     q : List ℕ
     q = take size behind
@@ -150,20 +209,14 @@ demand-2 {ws} {ws′} {cells} {out} {out′} {stop} {used} {n} runs p {rs} {rule
     w : IsTerm q
     w = whole-behind behind size (subst (Read behind) is (read-of (c / 4096) (c % 4096) behind (omega arith)) .2)
 
-    whole : WholeRules rules
-    whole = still-whole (limited ws p .whole) at
+    same : effectOf s c behind ≡ tells (good (answers (modeOf kind) q (s .rules))) (s .rules)
+    same = ap (does (s .rules) behind) is
 
-    answer-is : does rules behind (commandIn (c ∷ behind)) .answer ≡ good (answers (modeOf kind) q rules)
-    answer-is = ap (λ (x : Command). does rules behind x .answer) is
-
-    there : length (answers (modeOf kind) q rules) < room → (after : List Record) × (run rules (c ∷ behind) room .records ≡ good (answers (modeOf kind) q rules) ∷ after)
+    there : length (answers (modeOf kind) q (s .rules)) < s .room → GoneOn call s (good (answers (modeOf kind) q (s .rules))) (onward s size (tells (good (answers (modeOf kind) q (s .rules))) (s .rules)) behind)
     there l =
-        let f : length (does rules behind (commandIn (c ∷ behind)) .answer .cells) < room = subst (λ (r : Record). length (r .cells) < room) (sym answer-is) l in
-        let after = rest rules c behind room .records in
-        (after, ap (λ (o : Outcome). o .records) (run-goes-on rules c behind room f (ap stopOf is)) ∙ ap (λ (r : Record). r ∷ after) answer-is)
-
-    shown-there : length (answers (modeOf kind) q rules) < room → (after : List Record) × (out′ ≡ written (rs ++ (good (answers (modeOf kind) q rules) ∷ after)) ++ drop n out)
-    shown-there l = let t = there l in (t .0, passing runs p .output ∙ ap (λ (x : List Record). written x ++ drop n out) (reached at ∙ ap (λ (x : List Record). rs ++ x) (t .1)))
+        let f : length (effectOf s c behind .answer .cells) < s .room = subst (λ (x : Effect). length (x .answer .cells) < s .room) (sym same) l in
+        subst (λ (x : Command). GoneOn call s (good (answers (modeOf kind) q (s .rules))) (onward s (termSize x) (tells (good (answers (modeOf kind) q (s .rules))) (s .rules)) behind)) is
+        (subst (λ (x : Effect). GoneOn call s (x .answer) (onward s (sizeOf c behind) x behind)) same (gone-on at f (ap stopOf is)))
 
 -- A rule is listed as a generalisation of a pattern exactly when that pattern, were it the rule, would be listed as an instance of it.
 pub demand-2-other-way : (rules swapped : Rules) (q t : List ℕ) (k : ℕ) → IsTerm q → IsTerm t → WholeRules rules → WholeRules swapped → rules k ≡ rule t → swapped k ≡ rule q
@@ -246,8 +299,3 @@ batch-once ws a b cells out c d stop used n stop′ used′ n′ (ran p x) (turn
 batch-once ws a b cells out c d stop used n stop′ used′ n′ (turned-away f x) (ran p y) = absurd (f p)
 batch-once ws a b cells out c d stop used n stop′ used′ n′ (turned-away f x) (turned-away g y) =
     (x .stop-is ∙ sym (y .stop-is), x .used-is ∙ sym (y .used-is), x .written-is ∙ sym (y .written-is), x .output ∙ sym (y .output), ap rulesIn (x .book ∙ sym (y .book)))
-
--- Where no rule was added or removed the memory is the same, word for word.
-pub batch-keeps : (ws a cells out c : List ℕ) (stop used n : ℕ) → Runs ws a cells out c stop used n → run (rulesIn ws) cells (length out) .changes ≡ [] → a ≡ ws
-batch-keeps ws a cells out c stop used n (ran p x) e = x .book .same e
-batch-keeps ws a cells out c stop used n (turned-away f x) e = x .book

@@ -1,6 +1,13 @@
 -- What the exported functions promise, and what follows from it.
 pub mod Numbers
+-- how the demands speak of a batch
+pub mod Stages
+pub mod NewNodes
+pub mod Calls
+-- why they hold
 pub mod Refusals
-pub mod Wholeness
+pub mod AtCommand
+pub mod Naming
+-- the demands
 pub mod Demands
 pub mod Wrong

@@ -8,7 +8,7 @@ use native.Mathlib.Omega.{arith}
 use native.Mathlib.Decide.{ℕ-discrete, decLt}
 use borrow.Author.Tests.{ltb-true, leb-true, leb-false, lt-ltb, le-leb, lt-leb}
 use lib.Dec.{leb, ltb}
-use lib.ListN.{length, drop, length-drop}
+use lib.ListN.{length, take, drop, length-drop}
 use Rattle.term.specs.Counting.{true≢false}
 use Rattle.term.specs.Reading.{readTerm, refusalOf}
 use Rattle.term.specs.declared.reading.Fault.{Fault}
@@ -41,6 +41,45 @@ TakesTerm kind number = (kind ≡ 0) ⊎ ((2 ≤ kind) × (kind ≤ 5) × (numbe
 -- The term is at fault, with a number of the paper.
 abbrev pub FaultIs : (refusal : ℕ) → List ℕ → Type 0
 FaultIs refusal behind = (fault : Fault) × (place : ℕ) × (readTerm behind ≡ Refused fault place) × (refusalOf fault ≡ refusal)
+
+-- The term's first fault in reading order is this one, at some place.
+abbrev pub Faulty : Fault → List ℕ → Type 0
+Faulty fault behind = (place : ℕ) × (readTerm behind ≡ Refused fault place)
+
+pub fault-3 : (behind : List ℕ) → FaultIs 3 behind ↔ Faulty CutShort behind
+fault-3 behind = ((λ x. to (x .0) (x .1) (x .2) (x .3)), (λ x. (CutShort, x .0, x .1, refl)))
+  where
+    to : (fault : Fault) (place : ℕ) → readTerm behind ≡ Refused fault place → refusalOf fault ≡ 3 → Faulty CutShort behind
+    to CutShort place e f = (place, e)
+    to TooLong place e f = absurd (omega arith)
+    to FieldSet place e f = absurd (omega arith)
+    to AboveFifteen place e f = absurd (omega arith)
+    to AboveCount place e f = absurd (omega arith)
+
+pub fault-4 : (behind : List ℕ) → FaultIs 4 behind ↔ (Faulty FieldSet behind ⊎ (Faulty AboveFifteen behind ⊎ Faulty AboveCount behind))
+fault-4 behind = ((λ x. to (x .0) (x .1) (x .2) (x .3)), of)
+  where
+    to : (fault : Fault) (place : ℕ) → readTerm behind ≡ Refused fault place → refusalOf fault ≡ 4 → Faulty FieldSet behind ⊎ (Faulty AboveFifteen behind ⊎ Faulty AboveCount behind)
+    to CutShort place e f = absurd (omega arith)
+    to TooLong place e f = absurd (omega arith)
+    to FieldSet place e f = inl (place, e)
+    to AboveFifteen place e f = inr (inl (place, e))
+    to AboveCount place e f = inr (inr (place, e))
+
+    of : Faulty FieldSet behind ⊎ (Faulty AboveFifteen behind ⊎ Faulty AboveCount behind) → FaultIs 4 behind
+    of (inl x) = (FieldSet, x .0, x .1, refl)
+    of (inr (inl x)) = (AboveFifteen, x .0, x .1, refl)
+    of (inr (inr x)) = (AboveCount, x .0, x .1, refl)
+
+pub fault-5 : (behind : List ℕ) → FaultIs 5 behind ↔ Faulty TooLong behind
+fault-5 behind = ((λ x. to (x .0) (x .1) (x .2) (x .3)), (λ x. (TooLong, x .0, x .1, refl)))
+  where
+    to : (fault : Fault) (place : ℕ) → readTerm behind ≡ Refused fault place → refusalOf fault ≡ 5 → Faulty TooLong behind
+    to TooLong place e f = (place, e)
+    to CutShort place e f = absurd (omega arith)
+    to FieldSet place e f = absurd (omega arith)
+    to AboveFifteen place e f = absurd (omega arith)
+    to AboveCount place e f = absurd (omega arith)
 
 -- A command cell with the cells behind it, in the table's order.
 data Said (kind number : ℕ) (behind : List ℕ) : Command → Type 0 where
@@ -266,22 +305,159 @@ pub seven-shown : (h : Held) → shown h .refusal ≡ 7 ↔ h ≡ nothing
 seven-shown nothing = (λ e. refl, λ e. refl)
 seven-shown (rule t) = (λ e. absurd (omega arith), λ e. absurd (let z : _≡_ {A = ℕ} 0 1 = cc in omega arith))
 
+-- ---- at a command: refusals 6 to 9
+
+add-number : (a : Added) (r : ℕ) → addRefusal a ≡ r → ¬ (r ≡ 7)
+add-number Taken r e z = omega arith
+add-number HeldAlready r e z = omega arith
+add-number BookFull r e z = omega arith
+add-number NoNodes r e z = omega arith
+
+removal-number : (h : Held) → (removeRefusal (removal h) ≡ 0) ⊎ (removeRefusal (removal h) ≡ 7)
+removal-number nothing = inr refl
+removal-number (rule t) = inl refl
+
+shown-number : (h : Held) → (shown h .refusal ≡ 0) ⊎ (shown h .refusal ≡ 7)
+shown-number nothing = inr refl
+shown-number (rule t) = inl refl
+
+other-number : {P : Type 0} (x r : ℕ) → x ≡ r → (x ≡ 0) ⊎ (x ≡ 7) → 6 ≤ r → ¬ (r ≡ 7) → P
+other-number x r e (inl z) h n = absurd (omega arith)
+other-number x r e (inr z) h n = absurd (n (sym e ∙ z))
+
+-- An add whose term was read, with so many cells; a remove or a show.
+abbrev pub Adds-term : (kind : ℕ) → List ℕ → (size : ℕ) → Type 0
+Adds-term kind behind size = (kind ≡ 0) × (readTerm behind ≡ Whole size)
+
+abbrev pub Names-rule : (kind : ℕ) → Type 0
+Names-rule kind = (kind ≡ 1) ⊎ (kind ≡ 6)
+
+module _ (rules : Rules) (kind number : ℕ) (behind : List ℕ) where
+  abbrev here : Command
+  here = commandOf kind number behind
+
+  abbrev refusal : Command → ℕ
+  refusal c = does rules behind c .answer .refusal
+
+  abbrev judgement : Command → ℕ
+  judgement c = addRefusal (judged rules number (take (termSize c) behind))
+
+  not-both : {P : Type 0} (size : ℕ) (fault : Fault) (place : ℕ) → readTerm behind ≡ Whole size → readTerm behind ≡ Refused fault place → P
+  not-both size fault place e f = absurd (let z : _≡_ {A = ℕ} 0 1 = (let q = sym e ∙ f in cc) in omega arith)
+
+  wrong-not : {P : Type 0} → Wrong kind number → (kind ≡ 0) ⊎ Names-rule kind → P
+  wrong-not (inl h) (inl e) = absurd (omega arith)
+  wrong-not (inl h) (inr (inl e)) = absurd (omega arith)
+  wrong-not (inl h) (inr (inr e)) = absurd (omega arith)
+  wrong-not (inr (inl h, n)) (inl e) = absurd (let a = h .0 in omega arith)
+  wrong-not (inr (inl h, n)) (inr (inl e)) = absurd (let a = h .0 in omega arith)
+  wrong-not (inr (inl h, n)) (inr (inr e)) = absurd (let a = h .1 in omega arith)
+  wrong-not (inr (inr h, n)) (inl e) = absurd (omega arith)
+  wrong-not (inr (inr h, n)) (inr (inl e)) = absurd (omega arith)
+  wrong-not (inr (inr h, n)) (inr (inr e)) = absurd (omega arith)
+
+  -- 6, 8 and 9 are given for an add that was read, as the rules judge it
+  pub add-refused : (r : ℕ) → 6 ≤ r → ¬ (r ≡ 7) → refusal here ≡ r ↔ (Adds-term kind behind (termSize here) × (judgement here ≡ r))
+  unfolding does
+  add-refused r h n = (to here (said kind number behind), of here (said kind number behind))
+    where
+      to : (c : Command) → Said kind number behind c → refusal c ≡ r → Adds-term kind behind (termSize c) × (judgement c ≡ r)
+      to c (wrong w) e = absurd (omega arith)
+      to c (faulty fault place t q) e = absurd (let l = low-fault fault in omega arith)
+      to c (add size k q) e = ((k, q), e)
+      to c (remove k) e = other-number (removeRefusal (removal (rules number))) r e (removal-number (rules number)) h n
+      to c (ask size k q) e = absurd (omega arith)
+      to c (show k) e = other-number (shown (rules number) .refusal) r e (shown-number (rules number)) h n
+      to c (count k z) e = absurd (omega arith)
+
+      of : (c : Command) → Said kind number behind c → Adds-term kind behind (termSize c) × (judgement c ≡ r) → refusal c ≡ r
+      of c (wrong w) x = wrong-not w (inl (x .0 .0))
+      of c (faulty fault place t q) x = not-both 0 fault place (x .0 .1) q
+      of c (add size k q) x = x .1
+      of c (remove k) x = absurd (let a = x .0 .0 in omega arith)
+      of c (ask size k q) x = absurd (let a = x .0 .0 in let b = k .0 in omega arith)
+      of c (show k) x = absurd (let a = x .0 .0 in omega arith)
+      of c (count k z) x = absurd (let a = x .0 .0 in omega arith)
+
+  -- 7 is given for a remove or a show whose number isn't held
+  pub not-held : refusal here ≡ 7 ↔ (Names-rule kind × (rules number ≡ nothing))
+  unfolding does
+  not-held = (to here (said kind number behind), of here (said kind number behind))
+    where
+      to : (c : Command) → Said kind number behind c → refusal c ≡ 7 → Names-rule kind × (rules number ≡ nothing)
+      to c (wrong w) e = absurd (omega arith)
+      to c (faulty fault place t q) e = absurd (let l = low-fault fault in omega arith)
+      to c (add size k q) e = absurd (add-number (judged rules number (take size behind)) 7 e refl)
+      to c (remove k) e = (inl k, seven-removed (rules number) .0 e)
+      to c (ask size k q) e = absurd (omega arith)
+      to c (show k) e = (inr k, seven-shown (rules number) .0 e)
+      to c (count k z) e = absurd (omega arith)
+
+      no-other : {P : Type 0} → Names-rule kind → ¬ (kind ≡ 1) → ¬ (kind ≡ 6) → P
+      no-other (inl e) a b = absurd (a e)
+      no-other (inr e) a b = absurd (b e)
+
+      takes-not : {P : Type 0} → TakesTerm kind number → Names-rule kind → P
+      takes-not (inl e) k = no-other k (λ z. absurd (omega arith)) (λ z. absurd (omega arith))
+      takes-not (inr x) k = no-other k (λ z. absurd (let a = x .0 in omega arith)) (λ z. absurd (let a = x .1 in omega arith))
+
+      of : (c : Command) → Said kind number behind c → Names-rule kind × (rules number ≡ nothing) → refusal c ≡ 7
+      of c (wrong w) x = wrong-not w (inr (x .0))
+      of c (faulty fault place t q) x = takes-not t (x .0)
+      of c (add size k q) x = takes-not (inl k) (x .0)
+      of c (remove k) x = seven-removed (rules number) .1 (x .1)
+      of c (ask size k q) x = takes-not (inr k) (x .0)
+      of c (show k) x = seven-shown (rules number) .1 (x .1)
+      of c (count k z) x = no-other (x .0) (λ q. absurd (omega arith)) (λ q. absurd (omega arith))
+
+  -- after any other record than one of 2 to 5 the batch goes on
+  pub goes-on-with : (r : ℕ) → ¬ ((2 ≤ r) × (r ≤ 5)) → refusal here ≡ r → stopOf here ≡ 0
+  unfolding does
+  goes-on-with r h = go here (said kind number behind)
+    where
+      go : (c : Command) → Said kind number behind c → refusal c ≡ r → stopOf c ≡ 0
+      go c (wrong w) e = absurd (h (omega arith, omega arith))
+      go c (faulty fault place t q) e = absurd (let l = low-fault fault in let k = fault-low fault in h (omega arith, omega arith))
+      go c (add size k q) e = refl
+      go c (remove k) e = refl
+      go c (ask size k q) e = refl
+      go c (show k) e = refl
+      go c (count k z) e = refl
+
+  -- an add that was read
+  pub is-added : (size : ℕ) → Adds-term kind behind size → here ≡ Add number size
+  is-added size x = is-add kind number behind (x .0) ∙ ap (withTerm (Add number)) (x .1)
+
+  -- only an add or a remove changes anything
+  pub told-only : 2 ≤ kind → does rules behind here .changes ≡ []
+  unfolding does
+  told-only h = go here (said kind number behind)
+    where
+      go : (c : Command) → Said kind number behind c → does rules behind c .changes ≡ []
+      go c (wrong w) = refl
+      go c (faulty fault place t q) = refl
+      go c (add size k q) = absurd (omega arith)
+      go c (remove k) = absurd (omega arith)
+      go c (ask size k q) = refl
+      go c (show k) = refl
+      go c (count k z) = refl
+
 -- ---- a refused command changes nothing, and only an add or a remove changes anything
 
-add-changes : (a : Added) → ¬ (addRefusal a ≡ 0) → changeOf a ≡ []
-add-changes Taken n = absurd (n refl)
-add-changes HeldAlready n = refl
-add-changes BookFull n = refl
-add-changes NoNodes n = refl
+add-changes : (a : Added) (k : ℕ) (t : List ℕ) → ¬ (addRefusal a ≡ 0) → changeOf a k t ≡ []
+add-changes Taken k t n = absurd (n refl)
+add-changes HeldAlready k t n = refl
+add-changes BookFull k t n = refl
+add-changes NoNodes k t n = refl
 
-remove-changes : (h : Held) → ¬ (removeRefusal (removal h) ≡ 0) → changeAt h ≡ []
-remove-changes nothing n = refl
-remove-changes (rule t) n = absurd (n refl)
+remove-changes : (k : ℕ) (h : Held) → ¬ (removeRefusal (removal h) ≡ 0) → changeAt k h ≡ []
+remove-changes k nothing n = refl
+remove-changes k (rule t) n = absurd (n refl)
 
 pub refused-stays : (rules : Rules) (behind : List ℕ) (c : Command) → ¬ (does rules behind c .answer .refusal ≡ 0) → does rules behind c .changes ≡ []
 unfolding does
-refused-stays rules behind (Add number size) n = add-changes (judged rules number _) n
-refused-stays rules behind (Remove number) n = remove-changes (rules number) n
+refused-stays rules behind (Add number size) n = add-changes (judged rules number _) number _ n
+refused-stays rules behind (Remove number) n = remove-changes number (rules number) n
 refused-stays rules behind (Ask kind size) n = refl
 refused-stays rules behind (Show number) n = refl
 refused-stays rules behind Room n = refl
@@ -305,6 +481,13 @@ stop-range c behind = go (commandIn (c ∷ behind)) (said (c / 4096) (c % 4096) 
     go x (ask size h q) = inl refl
     go x (show e) = inl refl
     go x (count e z) = inl refl
+
+pub stops-low : (c : ℕ) (behind : List ℕ) → stopOf (commandIn (c ∷ behind)) ≤ 5
+stops-low c behind = go (stop-range c behind)
+  where
+    go : (stopOf (commandIn (c ∷ behind)) ≡ 0) ⊎ ((2 ≤ stopOf (commandIn (c ∷ behind))) × (stopOf (commandIn (c ∷ behind)) ≤ 5)) → stopOf (commandIn (c ∷ behind)) ≤ 5
+    go (inl e) = omega arith
+    go (inr x) = x .1
 
 -- How a batch ends: with one of those numbers, 0 exactly when all cells are used.
 pub record Ends (o : Outcome) (n : ℕ) : Type 0 where

@@ -1,20 +1,26 @@
 -- Batches that look right and are not: each breaks the promise on one small input, an empty book and a few cells.
-use mathlib.Core.Path.{_≡_, refl, sym, ap, _∙_, subst}
+use mathlib.Core.Path.{_≡_, refl, sym, ap, ap₂, _∙_, subst}
+use mathlib.Core.Logic.{_⊎_, inl, inr}
 use mathlib.Core.List.{List, [], _∷_, _++_}
-use Prim.Native.Nat.{ℕ, _+_}
+use mathlib.Core.Bool.{Bool, true}
+use Prim.Native.Nat.{ℕ, zero, suc, _+_, _-_, _≤_, _<_}
 use native.Mathlib.Omega.{arith}
 use lib.ListN.{length, replicate, drop}
 use Rattle.term.specs.Reading.{readTerm, readFrom, takes}
 use Rattle.term.specs.Beginnings.{nodes}
-use Rattle.book.specs.Rules.{nothing, rule, Rules, each, noRules, withRule}
+use Rattle.tree.specs.Tally.{bit, tally}
+use Rattle.book.specs.Rules.{nothing, rule, Rules, each, noRules, withRule, nodesOf}
 use Rattle.book.specs.Gathered.{not-rule}
-use Rattle.book.specs.Memory.{rulesIn}
-use Rattle.book.specs.Facts.{empty-passes, empty-rules}
+use Rattle.book.specs.Memory.{view, Passing, rulesIn}
+use Rattle.book.specs.Facts.{empty-passes, empty-rules, nodes-in-use}
 use Rattle.questions.specs.Asking.{answers}
 use Rattle.batch.specs.Records.{Record, bare, good, written}
-use Rattle.batch.specs.Commands.{commandOf, does}
+use Rattle.batch.specs.Commands.{more, less, commandOf, does}
 use Rattle.batch.specs.Run.{run, runFrom}
-use Rattle.batch.specs.Promises.{Came, Runs, passing}
+use Rattle.batch.specs.Promises.{Changes, Along, Came, Runs, passing}
+use Rattle.batch.specs.Laws.{unchanged}
+use Rattle.claggyfoot.specs.Stages.{first-of}
+use Rattle.claggyfoot.specs.NewNodes.{InUse, freeBelow, one-more, which-nodes}
 
 -- The memory of an empty book.
 abbrev pub emptyBook : List ℕ
@@ -105,3 +111,59 @@ makes-up-nodes {ws′} {count} {stop} {used} {n} d r = d (ap third (came r .outp
   where
     third : List ℕ → ℕ
     third cells = head (drop 2 cells)
+
+-- One that takes another node than the free one of lowest number. The book holds rule 1, the name 2, at node 0; rule 2, the name 3, is added, and
+-- rule 1 removed: rule 2 stands at node 1 then, and never at node 4,095.
+abbrev pub add-remove : List ℕ
+add-remove = 0x0002 ∷ 0x0003 ∷ 0x1001 ∷ []
+
+abbrev pub one-rule : Rules
+one-rule = withRule noRules 1 (0x0002 ∷ [])
+
+one-node : nodesOf one-rule ≡ 1
+unfolding each nodes
+one-node = refl
+
+two-nodes : nodesOf (withRule one-rule 2 (0x0003 ∷ [])) ≡ 2
+unfolding each nodes
+two-nodes = refl
+
+add-remove-changes : run one-rule add-remove 2 .changes ≡ more 2 (0x0003 ∷ []) ∷ less 1 (0x0002 ∷ []) ∷ []
+unfolding runFrom commandOf does each nodes readTerm readFrom takes
+add-remove-changes = refl
+
+-- a set that has a number is not empty
+some : (u : ℕ → Bool) (k : ℕ) → u 0 ≡ true → 1 ≤ tally u (suc k)
+unfolding tally
+some u zero e = let b : bit (u 0) ≡ 1 = ap bit e in omega arith
+some u (suc k) e = let x = some u k e in omega arith
+
+pub takes-the-last-node : {ws ws′ out′ : List ℕ} {stop used n : ℕ} → Passing ws → rulesIn ws ≡ one-rule → InUse ws 0 → InUse ws′ 4095 → ¬ (Runs ws ws′ add-remove (replicate 2 0) out′ stop used n)
+takes-the-last-node {ws} {ws′} {out′} {stop} {used} {n} p is first last r = go (which-nodes ws (a .0) p (a .1 .passes) (a .1 .nodes) 4095 (omega arith) .0 there)
+  where
+    changes-are : run (rulesIn ws) add-remove 2 .changes ≡ more 2 (0x0003 ∷ []) ∷ less 1 (0x0002 ∷ []) ∷ []
+    changes-are = ap (λ (x : Rules). run x add-remove 2 .changes) is ∙ add-remove-changes
+
+    -- the memories after the add and after the remove
+    a : (m : List ℕ) × Changes (more 2 (0x0003 ∷ [])) ws m × Along (less 1 (0x0002 ∷ []) ∷ []) m ws′
+    a = first-of (more 2 (0x0003 ∷ [])) (less 1 (0x0002 ∷ []) ∷ []) (passing r p .book .along) changes-are
+
+    b : (m : List ℕ) × Changes (less 1 (0x0002 ∷ [])) (a .0) m × Along [] m ws′
+    b = first-of (less 1 (0x0002 ∷ [])) [] (a .2) refl
+
+    there : InUse (a .0) 4095
+    there = b .1 .nodes .were 4095 (omega arith) (subst (λ (m : List ℕ). InUse m 4095) (unchanged (b .2) refl) last)
+
+    -- one node is in use before, and two after the add
+    before : tally (view ws .tree .used) 4096 ≡ 1
+    before = nodes-in-use ws p ∙ ap nodesOf is ∙ one-node
+
+    after : nodesOf (rulesIn (a .0)) - nodesOf (rulesIn ws) ≡ 1
+    after = ap₂ (λ (x y : ℕ). x - y) (ap nodesOf (a .1 .rules-are ∙ ap (λ (x : Rules). withRule x 2 (0x0003 ∷ [])) is) ∙ two-nodes) (ap nodesOf is ∙ one-node)
+
+    below : tally (view ws .tree .used) 4096 ≡ bit (view ws .tree .used 4095) + tally (view ws .tree .used) 4095
+    below = one-more (view ws .tree .used) 4095
+
+    go : InUse ws 4095 ⊎ (freeBelow ws 4095 < nodesOf (rulesIn (a .0)) - nodesOf (rulesIn ws)) → ⊥
+    go (inl x) = let c : bit (view ws .tree .used 4095) ≡ 1 = ap bit x in let d = some (view ws .tree .used) 4094 first in let e = before in let f = below in omega arith
+    go (inr x) = let e = before in let f = below in let g = after in omega arith

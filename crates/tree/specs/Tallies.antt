@@ -90,7 +90,7 @@ tally-le u (suc k) = let a = tally-le u k in let b = low (u k) in omega arith
     low false = omega arith
 
 -- what passes v passes u: there are as many exactly where all that pass u pass v
-bit-le : (u v : Bool) → (v ≡ true → u ≡ true) → bit v ≤ bit u
+pub bit-le : (u v : Bool) → (v ≡ true → u ≡ true) → bit v ≤ bit u
 bit-le true true h = omega arith
 bit-le true false h = omega arith
 bit-le false true h = absurd (true≢false (h refl) refl)
