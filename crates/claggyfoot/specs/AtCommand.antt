@@ -9,10 +9,9 @@ use lib.ListN.{length, getD, take, drop, length-append, length-drop}
 use lib.Seq.{getD-append-seam}
 use Rattle.term.specs.Whole.{whole-term}
 use Rattle.book.specs.declared.Added.{Added}
-use Rattle.book.specs.declared.Added.the-variants.{Taken, HeldAlready, BookFull, NoNodes}
+use Rattle.book.specs.declared.Added.the-variants.{Taken}
 use Rattle.book.specs.Rules.{Held, nothing, rule, Rules, withRule, nodesOf, judged, addRefusal, after}
 use Rattle.book.specs.Memory.{Passing, rulesIn}
-use Rattle.book.specs.Promises.{removal, removeRefusal}
 use Rattle.book.specs.Facts.{Limited, limited}
 use Rattle.questions.specs.Demand2.{never-more}
 use Rattle.batch.specs.Records.{Record, bare, written}

@@ -2,7 +2,7 @@
 use mathlib.Core.Path.{_≡_}
 use mathlib.Core.Logic.{_⊎_, _↔_}
 use mathlib.Core.List.{List, [], _∷_, _++_}
-use Prim.Native.Nat.{ℕ, suc, _-_, _/_, _%_, _≤_, _<_}
+use Prim.Native.Nat.{ℕ, _-_, _/_, _≤_, _<_}
 use lib.ListN.{length, getD, drop}
 use Rattle.book.specs.Rules.{nodesOf}
 use Rattle.book.specs.Memory.{Passing, rulesIn}

@@ -8,13 +8,13 @@
 -- A theorem on a refusal is `Exactly is condition follows`: the refusal is given exactly when the condition holds, and then all that follows holds:
 -- the numbers answered, every output cell, byte and word. `CameTo call s c behind` says of which command: the call comes to the stage s, where the
 -- command cell is c, with the cells behind it (specs/Stages, specs/Calls).
-use mathlib.Core.Path.{_≡_, refl, sym, ap, ap₂, _∙_, subst}
+use mathlib.Core.Path.{_≡_, sym, ap, ap₂, _∙_, subst}
 use mathlib.Core.Logic.{_⊎_, inl, inr, _↔_}
-use mathlib.Core.List.{List, [], _∷_, _++_, append-nil, List·Memᴰ}
-use Prim.Native.Nat.{ℕ, zero, suc, _+_, _-_, _*_, _/_, _%_, _≤_, _<_}
+use mathlib.Core.List.{List, [], _∷_, _++_, List·Memᴰ}
+use Prim.Native.Nat.{ℕ, _+_, _-_, _*_, _/_, _%_, _≤_, _<_}
 use native.Mathlib.Omega.{arith}
-use native.Mathlib.Decide.{ℕ-discrete, decLt}
-use lib.ListN.{length, getD, take, drop, length-drop}
+use native.Mathlib.Decide.{ℕ-discrete}
+use lib.ListN.{length, getD, take, drop}
 use lib.Seq.{take-at}
 use Rattle.term.specs.Questions.{instances, generalisations}
 use Rattle.term.specs.declared.reading.Fault.the-variants.{TooLong, CutShort, FieldSet, AboveFifteen, AboveCount}
@@ -33,11 +33,11 @@ use Rattle.batch.specs.declared.reader.Command.{Command}
 use Rattle.batch.specs.declared.reader.Command.the-variants.{Ask}
 use Rattle.batch.specs.Commands.{commandIn, termSize, stopOf, modeOf, Effect, tells, does}
 use Rattle.batch.specs.Run.{Outcome, run}
-use Rattle.batch.specs.Promises.{Read, Along, Came, Ran, Turned-away, Runs, ran, turned-away, passing}
+use Rattle.batch.specs.Promises.{Read, Came, Ran, Turned-away, Runs, ran, turned-away, passing}
 use Rattle.batch.specs.Laws.{whole-behind, read-of, unchanged}
 use Rattle.claggyfoot.specs.Stages.{Stage, onward, does-rules, MemoryAt}
 use Rattle.claggyfoot.specs.Calls.{Exactly, Call, Kept, CameTo, effectOf, sizeOf, Idle, StopsHere, Answered, Ended, GoneOn, RefusedOn, StoppedBy, NodesTaken}
-use Rattle.claggyfoot.specs.Refusals.{Wrong, TakesTerm, Faulty, Adds-term, Names-rule, Held-already, StopNumber, Ends, fault-3, fault-4, fault-5, two, term-fault, six, eight, nine, add-refused, not-held, goes-on-with, batch-ends}
+use Rattle.claggyfoot.specs.Refusals.{Wrong, TakesTerm, Faulty, Adds-term, Names-rule, Held-already, StopNumber, Ends, fault-3, fault-4, fault-5, two, six, eight, nine, not-held, goes-on-with, batch-ends}
 use Rattle.claggyfoot.specs.AtCommand.{limits, answered, stops-exactly, refused-exactly, ten, gone-on, fault-exactly, add-exactly, nodes-taken, idle, idle-stays, idle-keeps}
 use Rattle.claggyfoot.specs.Naming.{Gave, Told, enter-1, enter-11, enter-12, enter-held, enter-new, name-of-1, name-of-13, name-of-held}
 use Rattle.claggyfoot.specs.Numbers.{EntersNumbers, StandsNumbers, ChecksNumber, passing as passing-number, failing}

@@ -6,12 +6,12 @@ use native.Mathlib.Omega.{arith}
 use lib.ListN.{length, getD}
 use Rattle.names.specs.Name.{IsName}
 use Rattle.names.specs.Table.{Holds, Passes, Missing, put}
-use Rattle.names.specs.Calls.{Given, no-table, no-name, held, new, no-slot, Enters, entryRefusal, entryNumber, tableAfter, Stands, bad-table, no-number, at, placeRefusal, placeStart, placeSize}
+use Rattle.names.specs.Calls.{Given, no-table, no-name, held, new, no-slot, entryRefusal, entryNumber, tableAfter, Stands, bad-table, no-number, at, placeRefusal, placeStart, placeSize}
 use Rattle.names.specs.declared.Entry.{Entry}
 use Rattle.names.specs.declared.Entry.the-variants.{Held, New, NoTable, NoName, NoSlot}
 use Rattle.names.specs.declared.Place.{Place}
 use Rattle.names.specs.declared.Place.the-variants.{At, BadTable, NoNumber}
-use Rattle.names.specs.Once.{given-once, stands-once, passes}
+use Rattle.names.specs.Once.{given-once, stands-once}
 use Rattle.claggyfoot.specs.Calls.{Exactly}
 use Rattle.claggyfoot.specs.Numbers.{EntersNumbers, StandsNumbers}
 

@@ -5,7 +5,7 @@ use mathlib.Core.List.{List}
 use mathlib.Core.Bool.{Bool, true, false}
 use Prim.Native.Nat.{ℕ, zero, suc, _+_, _-_, _≤_, _<_}
 use native.Mathlib.Omega.{arith}
-use native.Mathlib.Decide.{ℕ-discrete, decLt}
+use native.Mathlib.Decide.{ℕ-discrete}
 use Rattle.term.specs.Counting.{true≢false}
 use Rattle.tree.specs.Tally.{bit, tally}
 use Rattle.tree.specs.Tallies.{bit-le, tally-all, tally-le}

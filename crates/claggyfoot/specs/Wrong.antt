@@ -113,7 +113,7 @@ makes-up-nodes {ws′} {count} {stop} {used} {n} d r = d (ap third (came r .outp
     third cells = head (drop 2 cells)
 
 -- One that takes another node than the free one of lowest number. The book holds rule 1, the name 2, at node 0; rule 2, the name 3, is added, and
--- rule 1 removed: rule 2 stands at node 1 then, and never at node 4,095.
+-- rule 1 removed: rule 2 belongs at node 1, and no node above it, 4,095 say, may be in use then.
 abbrev pub add-remove : List ℕ
 add-remove = 0x0002 ∷ 0x0003 ∷ 0x1001 ∷ []
 
@@ -132,38 +132,53 @@ add-remove-changes : run one-rule add-remove 2 .changes ≡ more 2 (0x0003 ∷ [
 unfolding runFrom commandOf does each nodes readTerm readFrom takes
 add-remove-changes = refl
 
--- a set that has a number is not empty
+-- a set that has 0 is not empty, and below a larger number there are no fewer
 some : (u : ℕ → Bool) (k : ℕ) → u 0 ≡ true → 1 ≤ tally u (suc k)
 unfolding tally
 some u zero e = let b : bit (u 0) ≡ 1 = ap bit e in omega arith
 some u (suc k) e = let x = some u k e in omega arith
 
-pub takes-the-last-node : {ws ws′ out′ : List ℕ} {stop used n : ℕ} → Passing ws → rulesIn ws ≡ one-rule → InUse ws 0 → InUse ws′ 4095 → ¬ (Runs ws ws′ add-remove (replicate 2 0) out′ stop used n)
-takes-the-last-node {ws} {ws′} {out′} {stop} {used} {n} p is first last r = go (which-nodes ws (a .0) p (a .1 .passes) (a .1 .nodes) 4095 (omega arith) .0 there)
-  where
-    changes-are : run (rulesIn ws) add-remove 2 .changes ≡ more 2 (0x0003 ∷ []) ∷ less 1 (0x0002 ∷ []) ∷ []
-    changes-are = ap (λ (x : Rules). run x add-remove 2 .changes) is ∙ add-remove-changes
+no-fewer : (u : ℕ → Bool) (n d : ℕ) → tally u n ≤ tally u (d + n)
+no-fewer u n zero = subst (λ (z : ℕ). tally u n ≤ tally u z) (let e : n ≡ 0 + n = omega arith in e) (omega arith)
+no-fewer u n (suc d) =
+    let x = no-fewer u n d in let y = one-more u (d + n) in
+    subst (λ (z : ℕ). tally u n ≤ tally u z) (let e : suc (d + n) ≡ suc d + n = omega arith in e) (omega arith)
 
-    -- the memories after the add and after the remove
-    a : (m : List ℕ) × Changes (more 2 (0x0003 ∷ [])) ws m × Along (less 1 (0x0002 ∷ []) ∷ []) m ws′
-    a = first-of (more 2 (0x0003 ∷ [])) (less 1 (0x0002 ∷ []) ∷ []) (passing r p .book .along) changes-are
+module _ {ws ws′ out′ : List ℕ} {stop used n : ℕ} (p : Passing ws) (is : rulesIn ws ≡ one-rule) (first : InUse ws 0) (r : Runs ws ws′ add-remove (replicate 2 0) out′ stop used n) where
+  abbrev u : ℕ → Bool
+  u = view ws .tree .used
 
-    b : (m : List ℕ) × Changes (less 1 (0x0002 ∷ [])) (a .0) m × Along [] m ws′
-    b = first-of (less 1 (0x0002 ∷ [])) [] (a .2) refl
+  changes-are : run (rulesIn ws) add-remove 2 .changes ≡ more 2 (0x0003 ∷ []) ∷ less 1 (0x0002 ∷ []) ∷ []
+  changes-are = ap (λ (x : Rules). run x add-remove 2 .changes) is ∙ add-remove-changes
 
-    there : InUse (a .0) 4095
-    there = b .1 .nodes .were 4095 (omega arith) (subst (λ (m : List ℕ). InUse m 4095) (unchanged (b .2) refl) last)
+  -- the memories after the add and after the remove
+  a : (m : List ℕ) × Changes (more 2 (0x0003 ∷ [])) ws m × Along (less 1 (0x0002 ∷ []) ∷ []) m ws′
+  a = first-of (more 2 (0x0003 ∷ [])) (less 1 (0x0002 ∷ []) ∷ []) (passing r p .book .along) changes-are
 
-    -- one node is in use before, and two after the add
-    before : tally (view ws .tree .used) 4096 ≡ 1
-    before = nodes-in-use ws p ∙ ap nodesOf is ∙ one-node
+  b : (m : List ℕ) × Changes (less 1 (0x0002 ∷ [])) (a .0) m × Along [] m ws′
+  b = first-of (less 1 (0x0002 ∷ [])) [] (a .2) refl
 
-    after : nodesOf (rulesIn (a .0)) - nodesOf (rulesIn ws) ≡ 1
-    after = ap₂ (λ (x y : ℕ). x - y) (ap nodesOf (a .1 .rules-are ∙ ap (λ (x : Rules). withRule x 2 (0x0003 ∷ [])) is) ∙ two-nodes) (ap nodesOf is ∙ one-node)
+  -- one node is in use before, and one more after the add
+  before : tally u 4096 ≡ 1
+  before = nodes-in-use ws p ∙ ap nodesOf is ∙ one-node
 
-    below : tally (view ws .tree .used) 4096 ≡ bit (view ws .tree .used 4095) + tally (view ws .tree .used) 4095
-    below = one-more (view ws .tree .used) 4095
+  gained : nodesOf (rulesIn (a .0)) - nodesOf (rulesIn ws) ≡ 1
+  gained = ap₂ (λ (x y : ℕ). x - y) (ap nodesOf (a .1 .rules-are ∙ ap (λ (x : Rules). withRule x 2 (0x0003 ∷ [])) is) ∙ two-nodes) (ap nodesOf is ∙ one-node)
 
-    go : InUse ws 4095 ⊎ (freeBelow ws 4095 < nodesOf (rulesIn (a .0)) - nodesOf (rulesIn ws)) → ⊥
-    go (inl x) = let c : bit (view ws .tree .used 4095) ≡ 1 = ap bit x in let d = some (view ws .tree .used) 4094 first in let e = before in let f = below in omega arith
-    go (inr x) = let e = before in let f = below in let g = after in omega arith
+  few : (node : ℕ) → node ≤ 4096 → tally u node ≤ 1
+  few node h =
+      let all : tally u node ≤ tally u 4096 = subst (λ (z : ℕ). tally u node ≤ tally u z) (let e : 4096 - node + node ≡ 4096 = omega arith in e) (no-fewer u node (4096 - node)) in
+      let e = before in omega arith
+
+  pub takes-another-node : (node : ℕ) → 1 < node → node < 4096 → ¬ (InUse ws′ node)
+  takes-another-node node h l last = go (which-nodes ws (a .0) p (a .1 .passes) (a .1 .nodes) node l .0 there)
+    where
+      there : InUse (a .0) node
+      there = b .1 .nodes .were node l (subst (λ (m : List ℕ). InUse m node) (unchanged (b .2) refl) last)
+
+      go : InUse ws node ⊎ (freeBelow ws node < nodesOf (rulesIn (a .0)) - nodesOf (rulesIn ws)) → ⊥
+      go (inl x) =
+          let c : bit (u node) ≡ 1 = ap bit x in
+          let d : 1 ≤ tally u node = subst (λ (z : ℕ). 1 ≤ tally u z) (let e : suc (node - 1) ≡ node = omega arith in e) (some u (node - 1) first) in
+          let e = few (suc node) l in let f = one-more u node in omega arith
+      go (inr x) = let e = few node (omega arith) in let g = gained in omega arith
