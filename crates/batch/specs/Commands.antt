@@ -14,6 +14,7 @@ use Rattle.book.specs.declared.Added.the-variants.{Taken, HeldAlready, BookFull
 use Rattle.book.specs.Promises.{removal, removeRefusal}
 use Rattle.questions.specs.Asking.{answers}
 use Rattle.batch.specs.Records.{Record, bare, good}
+use Rattle.batch.specs.Reader.{Next, Cell, End}
 pub use Rattle.batch.specs.declared.reader.Command.{Command}
 pub use Rattle.batch.specs.declared.reader.Command.the-variants.{Add, Remove, Ask, Show, Room, Stops}
 
@@ -42,10 +43,15 @@ commandOf kind number behind =
     (pickCommand (eqb kind 7) (withNumber0 number Room)
     (Stops 2)))))
 
--- The first command of some cells: 4 bits kind, 12 bits number, and what stands behind them. No cells: there is nothing to do, and stop is 0.
+-- The command that a cell begins: 4 bits kind, 12 bits number, and what stands behind them. No cell: there is nothing to do, and stop is 0.
+abbrev pub commandBy : Next → List ℕ → Command
+commandBy End behind = Stops 0
+commandBy (Cell c) behind = commandOf (c / 4096) (c % 4096) behind
+
+-- The first command of some cells.
 abbrev pub commandIn : List ℕ → Command
 commandIn [] = Stops 0
-commandIn (c ∷ behind) = commandOf (c / 4096) (c % 4096) behind
+commandIn (c ∷ behind) = commandBy (Cell c) behind
 
 -- How many of the cells behind the command cell are the command's.
 abbrev pub termSize : Command → ℕ

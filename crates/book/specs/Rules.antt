@@ -65,12 +65,19 @@ abbrev pub pickAdded : Bool → Added → Added → Added
 pickAdded true a b = a
 pickAdded false a b = b
 
+-- The book's limits, `Book::RULES` and `Book::NODES` of the code.
+abbrev pub rulesLimit : ℕ
+rulesLimit = 512
+
+abbrev pub nodesLimit : ℕ
+nodesLimit = 4096
+
 -- An add is judged in the order 6, 8, 9: number already held; 512 rules held; node count with the rule above 4,096.
 abbrev pub judged : Rules → ℕ → List ℕ → Added
 judged rules k term =
     pickAdded (isHeld (rules k)) HeldAlready
-    (pickAdded (leb 512 (ruleCount rules)) BookFull
-    (pickAdded (ltb 4096 (nodesOf (withRule rules k term))) NoNodes Taken))
+    (pickAdded (leb rulesLimit (ruleCount rules)) BookFull
+    (pickAdded (ltb nodesLimit (nodesOf (withRule rules k term))) NoNodes Taken))
 
 -- The rules after an add.
 abbrev pub after : Added → Rules → ℕ → List ℕ → Rules

@@ -7,6 +7,10 @@ ghost use Prim.Native.Nat.{_%_, _≤_, _<_};
 ghost use lib.ListN.{length, getD, take};
 ghost use Rattle.book.specs.Promises.{Checks};
 ghost use Rattle.book.specs.State.{numbered, AtPlace, Sizes, Come, Pushed, Entered, Downed, Decides, RuleEntered, Ruled, Clear, Popped};
+use crate::Book;
+
+// The mark of a blank, as wide as the cell of a word.
+const MARK: u64 = Book::MARK as u64;
 
 // Where the walk is: before the link x, a child of p with a cell of `low` at the least. Or it has met something wrong.
 pub struct Point {
@@ -54,7 +58,7 @@ fn number(c: u64, known: u64) -> u64
     requires { ⌜ (c ≤ 32768) × (known ≤ 32) ⌝ }
     ensures { λ r. ⌜ (r ≡ numbered c known) × (r < 65536) ⌝ }
 {
-    if c < 32768 { c } else { c + known }
+    if c < MARK { c } else { c + known }
 }
 
 // A word, or something wrong.
@@ -71,14 +75,14 @@ fn enter(m: &[u64], left: &mut [u64], x: usize, p: usize, low: u64, depth: usize
     if x == 0 {
         return wrong();
     }
-    if 4096 < x {
+    if Book::NODES < x {
         return wrong();
     }
     if 32 <= depth {
         return wrong();
     }
     let w = m[72 + x];
-    if 32768 < tree::cell_of(w) {
+    if MARK < tree::cell_of(w) {
         return wrong();
     }
     if !come(left, w, x - 1, p, low) {
@@ -165,10 +169,10 @@ fn enter_rule(m: &[u64], left: &mut [u64], x: usize, p: usize, low: u64) -> Got
     requires { ⌜ (length (now m) ≡ 12618) × (length (now left) ≡ 72) ⌝ }
     ensures { λ r. ⌜ RuleEntered (now (m .entry)) (now (left .entry)) (now (left .exit)) x p low (r .word) (r .right) ⌝ }
 {
-    if x <= 4096 {
+    if x <= Book::NODES {
         return wrong();
     }
-    if 4608 < x {
+    if tree::LAST < x {
         return wrong();
     }
     let w = m[72 + x];
@@ -263,7 +267,7 @@ fn back(w: u64, t: usize) -> Point
 pub fn passes(m: &[u64]) -> bool
     ensures { λ r. ⌜ Checks (now (m .entry)) r ⌝ }
 {
-    if m.len() != crate::Book::WORDS {
+    if m.len() != Book::WORDS {
         return false;
     }
     let mut left = maps(m);

@@ -54,11 +54,11 @@ impl Book {
     // The fixed length of a book's memory, in words.
     pub const WORDS: usize = 12618;
     // How many rules a book holds at the most.
-    pub const RULES: usize = 512;
+    pub const RULES: usize = tree::RULES;
     // How many nodes.
-    pub const NODES: usize = 4096;
+    pub const NODES: usize = tree::NODES;
     // The mark of a blank.
-    pub const MARK: u16 = 0x8000;
+    pub const MARK: u16 = term::MARK;
 
     // An empty book: 0, or 1 on a wrong length.
     pub fn empty(m: &mut [u64]) -> u64

@@ -15,7 +15,11 @@ ghost use Rattle.bits.specs.Numbers.{NumberSet, has};
 ghost use Rattle.tree.specs.Words.{cellOf};
 ghost use Rattle.questions.specs.Asking.{numbers};
 ghost use Rattle.questions.specs.Promises.{Onwards, Begins, Sought, Decisive, LastWanted, Threaded, PassesNode, Numbered, Marked, siblings, Ready, Left, Tried, Small, Parted, Steady, Went, IsRoot, Rooted, Searched, Lists};
+use book::Book;
 use term::machine;
+
+// The mark of a blank, as wide as the cell of a word.
+const MARK: u64 = Book::MARK as u64;
 
 // A point still to be tried: a link, the subterms of a rule still to skip there, and the place in the question. It is small, since
 // each question makes a list of them.
@@ -53,7 +57,7 @@ fn onward(m: &[u64], cell: u64, w: u64) -> usize
     requires { ⌜ (cellOf w ≡ cell → ⊥) ⌝ }
     ensures { λ r. ⌜ Onwards (now (m .entry)) cell w r ⌝ }
 {
-    if cell < 0x8000 {
+    if cell < MARK {
         if tree::cell_of(w) < cell {
             return tree::next_of(w) as usize;
         }
@@ -69,7 +73,7 @@ fn leap(m: &[u64], cell: u64, link: usize) -> usize
     if link == 0 {
         return link;
     }
-    if 0x8000 <= cell {
+    if MARK <= cell {
         return link;
     }
     let w = m[72 + link];
@@ -95,7 +99,7 @@ fn sibling(m: &[u64], cell: u64, last: u64, link: usize) -> usize
         if c == cell {
             return x;
         }
-        if 0x8000 <= c {
+        if MARK <= c {
             return x;
         }
         if last < c {
@@ -106,20 +110,20 @@ fn sibling(m: &[u64], cell: u64, last: u64, link: usize) -> usize
     x
 }
 
-// The one symbol with which the machine can go on, 0x8000 where it is no symbol, or 65,536 where it may be any, since the
+// The one symbol with which the machine can go on, the mark where it is no symbol, or 65,536 where it may be any, since the
 // question's cell may be filled.
 fn wanted(fills_question: bool, question: &[u16], place: usize) -> u64
     requires { ⌜ place < length (now question) ⌝ }
     ensures { λ r. ⌜ Decisive «fills_question» (now (question .entry)) place r ⌝ }
 {
     let c = question[place];
-    if c < 0x8000 {
+    if c < Book::MARK {
         return c as u64;
     }
     if fills_question {
         return 65536;
     }
-    0x8000
+    MARK
 }
 
 // The last symbol to look at. Siblings ascend, so where a rule's blank may not be filled nothing is to be found behind the symbol

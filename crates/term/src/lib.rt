@@ -13,18 +13,21 @@ ghost use Rattle.term.specs.Cells.{arity as arityOf};
 ghost use Rattle.term.specs.Reading.{TermReads};
 use reading::Reading;
 
+// The mark of a blank: the lowest cell that is no symbol.
+pub const MARK: u16 = 0x8000;
+
 // How many arguments a cell calls for.
 pub fn arity(c: u16) -> usize
     ensures { λ r. ⌜ (r ≡ arityOf (blankOf c)) × (r ≤ 7) ⌝ }
 {
-    if c < 0x8000 { (c / 4096) as usize } else { 0 }
+    if c < MARK { (c / 4096) as usize } else { 0 }
 }
 
 // The cell as a blank form has it: the blank mark for each variable.
 pub fn blank(c: u16) -> u16
     ensures { λ r. ⌜ r ≡ numberOf (blankOf c) ⌝ }
 {
-    if c < 0x8000 { c } else { 0x8000 }
+    if c < MARK { c } else { MARK }
 }
 
 // What `cf_term_read` answers: refusal 0 and the term's length, or the refusal and the place of the fault.

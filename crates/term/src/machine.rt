@@ -2,6 +2,7 @@
 ghost use mathlib.Core.Path.{_≡_};
 ghost use Rattle.term.specs.Steps.{Stands, Within, Passed, Stepped};
 ghost use mathlib.Core.Bool.{false};
+use crate::MARK;
 use crate::arity;
 
 // Where the machine stands: is it alive, how many subterms of the rule are still to skip, and how far into the question
@@ -52,8 +53,8 @@ pub fn meet(fills_question: bool, fills_rule: bool, question: &[u16], c: u16, pl
             place: place + 1,
         };
     }
-    if 0x8000 <= d {
-        if 0x8000 <= c {
+    if MARK <= d {
+        if MARK <= c {
             return Spot {
                 alive: true,
                 skip: 0,
@@ -69,7 +70,7 @@ pub fn meet(fills_question: bool, fills_rule: bool, question: &[u16], c: u16, pl
         }
         return failed();
     }
-    if 0x8000 <= c {
+    if MARK <= c {
         if fills_rule {
             return Spot {
                 alive: true,

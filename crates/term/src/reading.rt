@@ -2,6 +2,7 @@
 ghost use mathlib.Core.Path.{_≡_};
 ghost use lib.ListN.{drop};
 ghost use Rattle.term.specs.Reading.{takes, readTerm, refusalOf};
+use crate::MARK;
 
 // What can be wrong at a place, and what each is called.
 pub enum Fault {
@@ -46,7 +47,7 @@ pub fn refusal(fault: Fault) -> u64
 pub fn take(c: u16, known: usize) -> Taken
     ensures { λ r. ⌜ r ≡ takes known c ⌝ }
 {
-    if c < 0x8000 {
+    if c < MARK {
         return Taken::Wants {
             arity: (c / 4096) as usize,
             known,
@@ -55,7 +56,7 @@ pub fn take(c: u16, known: usize) -> Taken
     if 0x9000 <= c {
         return Taken::Faulty(Fault::FieldSet);
     }
-    let number = (c - 0x8000) as usize;
+    let number = (c - MARK) as usize;
     if 15 < number {
         return Taken::Faulty(Fault::AboveFifteen);
     }

@@ -24,6 +24,15 @@ ghost use Rattle.tree.specs.Words.{cellOf, parentOf, firstOf, nextOf, No
 ghost use Rattle.tree.specs.Promises.{Sound, Before, Found, Descended, Planted, Hangable, Hung};
 ghost use Rattle.tree.specs.Needs.{Ready, Room, Next, Growing, Leaf, Unlinked};
 
+// How many nodes of forms there is room for.
+pub const NODES: usize = 4096;
+// How many rules.
+pub const RULES: usize = 512;
+// The last link: behind the root stand the nodes, and behind them the rules.
+pub const LAST: usize = NODES + RULES;
+// The mark of a blank, as wide as the cell of a word.
+pub const MARK: u64 = term::MARK as u64;
+
 // ---- the word of a link
 
 pub fn cell_of(w: u64) -> u64
@@ -219,7 +228,7 @@ fn has_nodes(m: &[u64], missing: usize) -> bool
         return true;
     }
     let held = bits::count(&m[0..64]);
-    if held + missing > 4096 {
+    if held + missing > NODES {
         return false;
     }
     true
@@ -250,7 +259,7 @@ pub fn hang(m: &mut [u64], p: usize, r: usize, number: u64)
     ensures { λ _. ⌜ Hung (shape (now (m .entry))) (shape (now (m .exit))) p r number ⌝ }
 {
     let b = find(m, p, 0, number);
-    link(m, p, b, 4096 + r, number);
+    link(m, p, b, NODES + r, number);
 }
 
 // ---- removing

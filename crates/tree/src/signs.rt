@@ -60,7 +60,7 @@ fn is_further(m: &[u64], w: u64, f: usize, least: u64, most: u64) -> bool
     if f == 0 {
         return false;
     }
-    if 4608 < f {
+    if crate::LAST < f {
         return false;
     }
     let v = m[72 + f];
@@ -122,7 +122,7 @@ fn last_beside(signs: &[u64], w: u64) -> usize
     requires { ⌜ length (now signs) ≡ 2305 ⌝ }
 {
     let p = crate::parent_of(w) as usize;
-    if 4096 < p {
+    if crate::NODES < p {
         return 0;
     }
     bits::field(signs, p) as usize
@@ -135,7 +135,7 @@ pub fn to_last(m: &[u64], signs: &[u64], w: u64) -> usize
     ensures { λ r. ⌜ Onward (shape (now (m .entry))) w 32768 r ⌝ }
 {
     let l = last_beside(signs, w);
-    if is_further(m, w, l, 0, 0x8000) {
+    if is_further(m, w, l, 0, crate::MARK) {
         return l;
     }
     crate::next_of(w) as usize
@@ -159,7 +159,7 @@ pub fn highest(m: &[u64], last: usize) -> usize
         if p == 0 {
             return l;
         }
-        if 4608 < p {
+        if crate::LAST < p {
             return l;
         }
         if crate::first_of(m[72 + p]) as usize != l {
@@ -182,7 +182,7 @@ pub fn list_ended(m: &[u64], at: usize) -> usize
     if crate::next_of(w) != 0 {
         return 4097;
     }
-    if 4096 < p {
+    if crate::NODES < p {
         return 4097;
     }
     p
@@ -196,7 +196,7 @@ pub fn field_for(m: &[u64], signs: &[u64], at: usize, i: usize) -> usize
     requires { ⌜ at ≤ 4608 ⌝ }
     ensures { λ r. ⌜ r < 9220 ⌝ }
 {
-    if 4096 < at {
+    if crate::NODES < at {
         return 4097;
     }
     let w = m[72 + at];
