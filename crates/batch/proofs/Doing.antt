@@ -16,7 +16,9 @@ use Rattle.book.specs.declared.Added.the-variants.{Taken, HeldAlready, BookFull
 use Rattle.book.specs.declared.Removed.{Removed}
 use Rattle.book.specs.Rules.{Held, nothing, rule, Rules, isHeld, withRule, withoutRule, ruleCount, nodesOf, addRefusal, pickAdded, judged, after}
 use Rattle.book.specs.Memory.{Passing, rulesIn}
-use Rattle.book.specs.Promises.{Adds, Removes, removal, removeRefusal, Shows, shownSize, shownCells}
+use Rattle.book.specs.Rules.{removal, removeRefusal}
+use Rattle.book.specs.Promises.{Shows, shownSize, shownCells}
+use Rattle.change.specs.Promises.{Adds, Removes}
 use Rattle.book.specs.Facts.{limited}
 use Rattle.questions.specs.Asking.{numbers, answers}
 use Rattle.questions.specs.Demand2.{never-more}

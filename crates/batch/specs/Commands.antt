@@ -11,7 +11,7 @@ use Rattle.term.specs.declared.reading.Reading.the-variants.{Whole, Refused}
 use Rattle.book.specs.Rules.{Held, nothing, rule, Rules, withRule, withoutRule, ruleCount, nodesOf, addRefusal, judged, after}
 use Rattle.book.specs.declared.Added.{Added}
 use Rattle.book.specs.declared.Added.the-variants.{Taken, HeldAlready, BookFull, NoNodes}
-use Rattle.book.specs.Promises.{removal, removeRefusal}
+use Rattle.book.specs.Rules.{removal, removeRefusal}
 use Rattle.questions.specs.Asking.{answers}
 use Rattle.batch.specs.Records.{Record, bare, good}
 use Rattle.batch.specs.Reader.{Next, Cell, End}

@@ -8,7 +8,7 @@ use Rattle.term.specs.declared.reading.Reading.the-variants.{Whole}
 use Rattle.tree.specs.Shape.{Shape}
 use Rattle.book.specs.Rules.{Rules}
 use Rattle.book.specs.Memory.{view, Passing, rulesIn}
-use Rattle.book.specs.Promises.{TakesLowest, TakesNone}
+use Rattle.change.specs.Promises.{TakesLowest, TakesNone}
 use Rattle.batch.specs.Records.{Record, cellsOf, written}
 use Rattle.batch.specs.Commands.{Command, Add, Remove, Ask, Show, Room, Stops, Change, more, less, changedNumber, heldBefore, changed, Effect}
 use Rattle.batch.specs.Run.{Outcome, run}

@@ -123,7 +123,7 @@ fn run_commands(book: &mut [u64], commands: &[u16], output: &mut [u16]) -> Ended
 pub fn run(book: &mut [u64], commands: &[u16], output: &mut [u16]) -> Ended
     ensures { λ r. ⌜ Runs (now (book .entry)) (now (book .exit)) (now (commands .entry)) (now (output .entry)) (now (output .exit)) (r .stop) (r .used) (r .written) ⌝ }
 {
-    if !book::check::passes(book) {
+    if !passing::passes(book) {
         return Ended {
             stop: 1,
             used: 0,

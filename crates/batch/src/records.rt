@@ -10,7 +10,8 @@ ghost use Rattle.questions.specs.Asking.{numbers};
 ghost use Rattle.term.specs.Machine.{fillsQuestion, fillsRule};
 ghost use Rattle.book.specs.Rules.{addRefusal};
 ghost use Rattle.book.specs.Memory.{Passing, rulesIn};
-ghost use Rattle.book.specs.Promises.{IsTerm, removeRefusal};
+ghost use Rattle.book.specs.Rules.{removeRefusal};
+ghost use Rattle.book.specs.Promises.{IsTerm};
 ghost use Rattle.batch.specs.Records.{bare};
 ghost use Rattle.batch.specs.Commands.{adds, removes, asks, shows, counts, modeOf};
 ghost use Rattle.batch.specs.Promises.{Writes, Does};
@@ -94,7 +95,7 @@ pub fn add(book: &mut [u64], number: u16, term: &[u16], out: &mut [u16]) -> usiz
     if out.len() == 0 {
         return 0;
     }
-    let answer = book::change::add(book, number, term);
+    let answer = change::add(book, number, term);
     put_bare(add_refusal(answer), out)
 }
 
@@ -107,7 +108,7 @@ pub fn remove(book: &mut [u64], number: u16, out: &mut [u16]) -> usize
     if out.len() == 0 {
         return 0;
     }
-    let answer = book::change::remove(book, number);
+    let answer = change::remove(book, number);
     put_bare(remove_refusal(answer), out)
 }
 

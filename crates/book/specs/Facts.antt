@@ -1,6 +1,6 @@
 -- What the book's users may count on: the empty book holds no rules; memory that passes holds one set of rules within the limits, with exactly
 -- their nodes; two allowed outcomes of a call are the same; and what a call answers depends on the set of rules alone.
-use mathlib.Core.Path.{_≡_, refl, sym, ap, ap₂, _∙_, subst, fun-ext}
+use mathlib.Core.Path.{_≡_, refl, sym, ap, _∙_, subst, fun-ext}
 use mathlib.Core.List.{List, [], map, reverse, append-nil, List·Memᴰ}
 use mathlib.Core.Bool.{Bool, true, false}
 use Prim.Native.Nat.{ℕ, zero, suc, _+_, _-_, _≤_, _<_}
@@ -21,10 +21,10 @@ use Rattle.tree.specs.Tallies.{listed, tally-le}
 use Rattle.tree.specs.Leaves.{ends, bases, numbered}
 use Rattle.tree.specs.NodeCount.{Numbered}
 use Rattle.tree.specs.Limits.{used-low, nodeMap, nodes-held, empty-words}
-use Rattle.book.specs.Rules.{nothing, rule, Rules, isHeld, noRules, withoutRule, pickHeld, terms, ruleCount, nodesOf, Added, judged, after}
+use Rattle.book.specs.Rules.{nothing, rule, Rules, isHeld, noRules, pickHeld, terms, ruleCount, nodesOf}
 use Rattle.book.specs.Memory.{view, taken, number, term, formOf, leaf, leaves, heldAt, Passing, rulesIn}
 use Rattle.book.specs.Holding.{hanging, holds-at, number-low, term-size, base-forms, nodes-tally, rules-tally, count-tally}
-use Rattle.book.specs.Promises.{IsTerm, Empties, Checks, Adds, Removes, Removed, removal, shownSize, shownCells, Shows, Counts}
+use Rattle.book.specs.Promises.{IsTerm, Empties, shownSize, shownCells, Shows, Counts}
 
 -- ---- the empty book
 
@@ -128,24 +128,9 @@ empties-once ws a b r s x y = go (ℕ-discrete (length ws) 12618)
     go (yes e) = (x .made e .0 ∙ sym (y .made e .0), x .made e .1 ∙ sym (y .made e .1))
     go (no n) = (x .refused n .0 ∙ sym (y .refused n .0), x .refused n .1 ∙ sym (y .refused n .1))
 
-pub checks-once : (ws : List ℕ) (r s : Bool) → Checks ws r → Checks ws s → r ≡ s
-checks-once ws true true x y = refl
-checks-once ws true false x y = absurd (y .no refl (x .yes refl))
-checks-once ws false true x y = absurd (x .no refl (y .yes refl))
-checks-once ws false false x y = refl
-
 -- ---- the set of rules alone
 
 module _ (ws vs : List ℕ) (same : rulesIn ws ≡ rulesIn vs) where
-  pub adds-alike : (ws′ vs′ : List ℕ) (k : ℕ) (t : List ℕ) (r s : Added) → Adds ws ws′ k t r → Adds vs vs′ k t s → (r ≡ s) × (rulesIn ws′ ≡ rulesIn vs′)
-  adds-alike ws′ vs′ k t r s x y =
-      let e : r ≡ s = x .answer ∙ ap (λ (z : Rules). judged z k t) same ∙ sym (y .answer) in
-      (e, x .rules ∙ ap₂ (λ (a : Added) (z : Rules). after a z k t) e same ∙ sym (y .rules))
-
-  pub removes-alike : (ws′ vs′ : List ℕ) (k : ℕ) (r s : Removed) → Removes ws ws′ k r → Removes vs vs′ k s → (r ≡ s) × (rulesIn ws′ ≡ rulesIn vs′)
-  removes-alike ws′ vs′ k r s x y =
-      (x .answer ∙ ap (λ (z : Rules). removal (z k)) same ∙ sym (y .answer), x .rules ∙ ap (λ (z : Rules). withoutRule z k) same ∙ sym (y .rules))
-
   pub shows-alike : (k : ℕ) (held held′ : Bool) (size size′ : ℕ) (cells cells′ : List ℕ) → Shows ws k held size cells → Shows vs k held′ size′ cells′ → (held ≡ held′) × (size ≡ size′) × (cells ≡ cells′)
   shows-alike k held held′ size size′ cells cells′ x y = (
     x .is-held ∙ ap (λ (z : Rules). isHeld (z k)) same ∙ sym (y .is-held),

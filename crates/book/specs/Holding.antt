@@ -13,10 +13,10 @@ use Rattle.term.specs.Distinct.{as-many, distinct-map}
 use Rattle.term.specs.Counting.{true≢false, nodes-same}
 use Rattle.term.specs.Whole.{TermAt, whole-term}
 use Rattle.tree.specs.Basics.{eqb-exact}
-use Rattle.tree.specs.Shape.{Used}
+use Rattle.tree.specs.Shape.{Used, End}
 use Rattle.tree.specs.Tally.{tally}
 use Rattle.tree.specs.Tallies.{listed, length-listed, of-listed, to-listed, listed-distinct}
-use Rattle.tree.specs.Leaves.{Leaf, bases, Hanging, numbered}
+use Rattle.tree.specs.Leaves.{Leaf, endOf, ends, bases, Hanging, numbered}
 use Rattle.tree.specs.NodeCount.{nodes-are}
 use Rattle.book.specs.Rules.{Held, nothing, rule, Rules, isHeld, termsOf, pickHeld, each, terms, ruleCount, nodesOf}
 use Rattle.book.specs.Gathered.{terms-standing, rule-inj, not-rule}
@@ -29,6 +29,21 @@ both-true a b e f = ap (λ (x : Bool). both x b) e ∙ f
 of-both : (a b : Bool) → both a b ≡ true → (a ≡ true) × (b ≡ true)
 of-both true b e = (refl, e)
 of-both false b e = absurd (true≢false e refl)
+
+-- The end of the rule at a place.
+abbrev pub endAt : View → ℕ → End
+endAt v r = endOf (leaf v r)
+
+-- The ends of all places that pass a test: which ends stand in the list.
+pub of-ends : (v : View) (u : ℕ → Bool) {y : End} → List·Memᴰ y (ends (map (leaf v) (listed u 512))) → (r : ℕ) × (u r ≡ true) × (r < 512) × (endAt v r ≡ y)
+of-ends v u i =
+    let a = Memᴰ·of-map endOf (map (leaf v) (listed u 512)) i in
+    let b = Memᴰ·of-map (leaf v) (listed u 512) (a .1) in
+    let c = of-listed u 512 (b .1) in
+    (b .0, c .0, c .1, ap endOf (b .2) ∙ a .2)
+
+pub to-ends : (v : View) (u : ℕ → Bool) (r : ℕ) → u r ≡ true → r < 512 → List·Memᴰ (endAt v r) (ends (map (leaf v) (listed u 512)))
+to-ends v u r e l = Memᴰ·map endOf (Memᴰ·map (leaf v) (to-listed u 512 r e l))
 
 -- The rule with the number k and the term t, at the place r.
 pub record At (v : View) (k : ℕ) (t : List ℕ) : Type 0 where

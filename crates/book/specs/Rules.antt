@@ -7,6 +7,8 @@ use lib.ListN.{length}
 use Rattle.term.specs.Beginnings.{nodeCount}
 pub use Rattle.book.specs.declared.Added.{Added}
 pub use Rattle.book.specs.declared.Added.the-variants.{Taken, HeldAlready, BookFull, NoNodes}
+pub use Rattle.book.specs.declared.Removed.{Removed}
+pub use Rattle.book.specs.declared.Removed.the-variants.{Gone, NotHeld}
 
 -- Under a number there is nothing, or a rule with its term, variables kept.
 pub data Held : Type 0 where
@@ -85,3 +87,12 @@ after Taken rules k term = withRule rules k term
 after HeldAlready rules k term = rules
 after BookFull rules k term = rules
 after NoNodes rules k term = rules
+
+-- A remove of what stands under a number, and the paper's number of its answer.
+abbrev pub removal : Held → Removed
+removal nothing = NotHeld
+removal (rule t) = Gone
+
+abbrev pub removeRefusal : Removed → ℕ
+removeRefusal Gone = 0
+removeRefusal NotHeld = 7

@@ -8,10 +8,7 @@
 //
 // A place of a number means something only where the rule there has that number, so removing a rule writes neither
 // places nor records.
-pub mod change;
-pub mod check;
 pub mod record;
-pub mod rule;
 
 ghost use mathlib.Core.Path.{_≡_};
 ghost use Prim.Native.Nat.{_<_};
@@ -76,13 +73,13 @@ impl Book {
     }
 }
 
-fn wide(x: u16) -> u64
+pub fn wide(x: u16) -> u64
     ensures { λ r. ⌜ r ≡ x ⌝ }
 {
     x as u64
 }
 
-fn size_of(x: u16) -> usize
+pub fn size_of(x: u16) -> usize
     ensures { λ r. ⌜ r ≡ x ⌝ }
 {
     x as usize

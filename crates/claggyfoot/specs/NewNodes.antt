@@ -11,7 +11,7 @@ use Rattle.tree.specs.Tally.{bit, tally}
 use Rattle.tree.specs.Tallies.{bit-le, tally-all, tally-le}
 use Rattle.book.specs.Rules.{nodesOf}
 use Rattle.book.specs.Memory.{view, Passing, rulesIn}
-use Rattle.book.specs.Promises.{TakesLowest}
+use Rattle.change.specs.Promises.{TakesLowest}
 use Rattle.book.specs.Facts.{nodes-in-use}
 
 -- A node is in use; and how many nodes below n are free.

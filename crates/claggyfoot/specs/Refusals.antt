@@ -18,7 +18,7 @@ use Rattle.term.specs.declared.reading.Reading.the-variants.{Whole, Refused}
 use Rattle.book.specs.declared.Added.{Added}
 use Rattle.book.specs.declared.Added.the-variants.{Taken, HeldAlready, BookFull, NoNodes}
 use Rattle.book.specs.Rules.{Held, nothing, rule, Rules, isHeld, withRule, ruleCount, nodesOf, addRefusal, pickAdded, judged}
-use Rattle.book.specs.Promises.{removal, removeRefusal}
+use Rattle.book.specs.Rules.{removal, removeRefusal}
 use Rattle.batch.specs.declared.reader.Command.{Command}
 use Rattle.batch.specs.declared.reader.Command.the-variants.{Add, Remove, Ask, Show, Room, Stops}
 use Rattle.batch.specs.Commands.{withTerm, commandOf, commandIn, termSize, stopOf, Effect, changeOf, changeAt, shown, does}

@@ -80,7 +80,7 @@ pub extern "C" fn cf_book_empty(book: &mut [u64]) -> u64
 pub extern "C" fn cf_book_passes(book: &[u64]) -> u64
     ensures { λ r. ⌜ ChecksNumber (now (book .entry)) r ⌝ }
 {
-    if book::check::passes(book) {
+    if passing::passes(book) {
         return 0;
     }
     1

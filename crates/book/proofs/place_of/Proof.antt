@@ -6,7 +6,7 @@ use Prim.Native.Nat.{ℕ}
 use lib.ListN.{getD, take, drop}
 use Rattle.bits.specs.Packed.{fields}
 use Rattle.book.specs.Memory.{view}
-use Rattle.book.proofs.Looking.{too-high, not-taken, other-number, found}
+use Rattle.book.specs.Looking.{too-high, not-taken, other-number, found}
 use Rattle.book.proofs.place_of.Statement.{statement}
 use Rattle.book.proofs.place_of.Tie as tie
 

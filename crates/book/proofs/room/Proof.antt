@@ -1,6 +1,6 @@
 -- The set bits of the two maps are the nodes and the rules of the set.
 use borrow.Author.Needs.{needs}
-use Rattle.book.proofs.Looking.{counted}
+use Rattle.book.specs.Looking.{counted}
 use Rattle.book.proofs.room.Statement.{statement}
 use Rattle.book.proofs.room.Tie as tie
 

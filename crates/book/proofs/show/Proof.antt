@@ -5,7 +5,7 @@ use Prim.Native.Nat.{ℕ, _+_, _*_, _-_}
 use native.Mathlib.Omega.{arith}
 use lib.ListN.{getD, take, drop}
 use Rattle.bits.specs.Packed.{fields}
-use Rattle.book.proofs.Placing.{Placed, not-placed, placed, shows-nothing, shows-rule}
+use Rattle.book.specs.Placing.{Placed, not-placed, placed, shows-nothing, shows-rule}
 use Rattle.book.proofs.show.Statement.{statement}
 use Rattle.book.proofs.show.Tie as tie
 

@@ -4,7 +4,7 @@ use Prim.Native.Nat.{ℕ, _-_, _≤_}
 use native.Mathlib.Omega.{arith}
 use borrow.Author.Needs.{needs}
 use lib.ListN.{length, length-set, length-replicate, replicate}
-use Rattle.book.proofs.Filling.{Filled, filled-more, filled-all, zeros-are}
+use Rattle.book.specs.Filling.{Filled, filled-more, filled-all, zeros-are}
 use Rattle.book.proofs.Book.empty.Statement.{statement}
 use Rattle.book.proofs.Book.empty.Tie as tie
 

@@ -2,7 +2,7 @@
 use mathlib.Core.Path.{_∙_}
 use native.Mathlib.Omega.{arith}
 use borrow.Author.Needs.{needs}
-use Rattle.book.proofs.Filling.{fours-past, fours-are}
+use Rattle.book.specs.Filling.{fours-past, fours-are}
 use Rattle.book.proofs.record.four.Statement.{statement}
 use Rattle.book.proofs.record.four.Tie as tie
 

@@ -5,7 +5,7 @@ use native.Mathlib.Omega.{arith}
 use borrow.Author.Needs.{needs}
 use lib.ListN.{length, length-set, getD}
 use Rattle.bits.specs.Packed.{fields}
-use Rattle.book.proofs.Filling.{Filled, filled-more, filled-all, fields-long}
+use Rattle.book.specs.Filling.{Filled, filled-more, filled-all, fields-long}
 use Rattle.book.proofs.record.load.Statement.{statement}
 use Rattle.book.proofs.record.load.Tie as tie
 

@@ -1,7 +1,7 @@
 -- Each cell passed is the field of the same index, and those behind are zero on both sides
 use Prim.Native.Nat.{_+_, _-_, _<_}
 use native.Mathlib.Omega.{arith}
-use Rattle.book.proofs.Filling.{Loading, loading-none, room, loading-more, loaded}
+use Rattle.book.specs.Filling.{Loading, loading-none, room, loading-more, loaded}
 use Rattle.book.proofs.record.load_term.Statement.{statement}
 use Rattle.book.proofs.record.load_term.Tie as tie
 

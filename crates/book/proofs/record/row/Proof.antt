@@ -6,7 +6,7 @@ use borrow.Author.Needs.{needs}
 use lib.ListN.{length, length-set, getD, getD-replicate}
 use lib.Seq.{getD-set-other}
 use Rattle.book.specs.Memory.{blankNumber}
-use Rattle.book.proofs.Filling.{Filled, filled-more, rowed}
+use Rattle.book.specs.Filling.{Filled, filled-more, rowed}
 use Rattle.book.proofs.record.row.Statement.{statement}
 use Rattle.book.proofs.record.row.Tie as tie
 

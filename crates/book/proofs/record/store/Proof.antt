@@ -4,7 +4,7 @@ use Prim.Native.Nat.{_-_, _*_, _≤_}
 use native.Mathlib.Omega.{arith}
 use lib.ListN.{length, length-set, getD}
 use Rattle.bits.specs.Packed.{fields}
-use Rattle.book.proofs.Filling.{Filled, filled-four, filled-all, fields-long, padded, padded-long}
+use Rattle.book.specs.Filling.{Filled, filled-four, filled-all, fields-long, padded, padded-long}
 use Rattle.book.proofs.record.store.Statement.{statement}
 use Rattle.book.proofs.record.store.Tie as tie
 

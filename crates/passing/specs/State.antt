@@ -1,0 +1,209 @@
+-- What the walk keeps in its arrays: for each depth the last cells of the row and what is still wanted, and the words of its stops.
+use mathlib.Core.Path.{_≡_}
+use mathlib.Core.List.{List, [], _∷_, List·Memᴰ}
+use mathlib.Core.Bool.{Bool, true, false}
+use Prim.Native.Nat.{ℕ, zero, suc, _+_, _-_, _*_, _/_, _%_, _≤_, _<_}
+use lib.Dec.{ltb}
+use lib.ListN.{length, getD, set, take, drop}
+use Rattle.bits.specs.Packed.{fields, Zeros}
+use Rattle.term.specs.Reading.{readTerm}
+use Rattle.term.specs.declared.reading.Reading.the-variants.{Whole}
+use Rattle.tree.specs.Shape.{Shape, Place, to, owner, floor}
+use Rattle.tree.specs.Tally.{tally, marked}
+use Rattle.tree.specs.Words.{cellOf, parentOf, firstOf, nextOf, Node}
+use Rattle.tree.specs.Promises.{Marked}
+use Rattle.tree.specs.Down.{Ended}
+use Rattle.tree.specs.Stops.{Stop, stop, Standing}
+use Rattle.book.specs.Memory.{view, number, blankNumber}
+use Rattle.passing.specs.Walk.{wants, Told, Bare}
+
+-- how many blanks a row has
+abbrev pub blanks : List ℕ → ℕ
+blanks [] = 0
+blanks (c ∷ r) = c / 32768 + blanks r
+
+-- both counts in one word
+abbrev pub counts : List ℕ → ℕ
+counts r = blanks r * 65536 + wants r
+
+-- a cell of the most general term of a form: its blanks are the variables 0, 1, 2 ..
+abbrev pub pickCell : Bool → ℕ → ℕ → ℕ
+pickCell true c d = c
+pickCell false c d = d
+
+abbrev pub numbered : (c known : ℕ) → ℕ
+numbered c known = pickCell (ltb c 32768) c (c + known)
+
+-- the last four cells of the most general term, as a record has them
+abbrev pub wordOf : List ℕ → ℕ
+wordOf [] = 0
+wordOf (c ∷ r) = wordOf r % 281474976710656 * 65536 + numbered c (blanks r)
+
+-- two arrays have these of each beginning of the way, and each wants something that comes next
+pub data Kept (way ks : List ℕ) : List ℕ → Type 0 where
+  none : getD way 0 0 ≡ 0 → getD ks 0 0 ≡ 1 → Kept way ks []
+  more : {c : ℕ} {r : List ℕ} → getD way (suc (length r)) 0 ≡ wordOf (c ∷ r) → getD ks (suc (length r)) 0 ≡ counts (c ∷ r) → ¬ (wants r ≡ 0)
+      → Kept way ks r → Kept way ks (c ∷ r)
+
+-- an array has the words of the stops, each with its depth in place of its first child
+pub data Stacked (m : Shape) (stack : List ℕ) : ℕ → List Stop → Type 0 where
+  none : Stacked m stack zero []
+  more : {k n d : ℕ} {ks : List Stop} → Node (getD stack k 0) (m .cell n) (m .parent n) d (m .next n) → Stacked m stack k ks → Stacked m stack (suc k) (stop n d ∷ ks)
+
+abbrev pub Low : List ℕ → Type 0
+Low r = (c : ℕ) → List·Memᴰ c r → c ≤ 32768
+
+-- The walk stands before the link x, a child of p with a cell of `low` at the least
+pub record AtPlace (ws left way ks stack : List ℕ) (x p low depth top : ℕ) : Type 0 where
+  pub place : Place
+  pub row : List ℕ
+  pub stops : List Stop
+  pub standing : Standing (view ws .tree) Bare (Told (view ws)) place row stops (marked left)
+  pub leads : to (view ws .tree) place ≡ x
+  pub under : owner (view ws .tree) place ≡ p
+  pub above : floor (view ws .tree) place ≡ low
+  pub deep : length row ≡ depth
+  pub short : depth ≤ 32
+  pub cells : Low row
+  pub stuck : x ≡ 0 → ¬ (Bare place)
+  pub stacked : Stacked (view ws .tree) stack top stops
+  pub kept : Kept way ks row
+
+-- All is found that the check asks for
+abbrev pub Found : List ℕ → Type 0
+Found ws = Ended (view ws .tree) Bare (Told (view ws))
+
+-- ---- what the functions promise
+
+-- The word w of the node n fits below p, and n is left; then it is left no more
+pub record Come (left left′ : List ℕ) (w n p low : ℕ) (r : Bool) : Type 0 where
+  pub under : r ≡ true → parentOf w ≡ p
+  pub above : r ≡ true → low ≤ cellOf w
+  pub was : r ≡ true → Marked left n
+  pub no : r ≡ false → parentOf w ≡ p → low ≤ cellOf w → ¬ (Marked left n)
+  pub gone : r ≡ true → marked left′ n ≡ false
+  pub others : r ≡ true → (y : ℕ) → ¬ (y ≡ n) → marked left′ y ≡ marked left y
+
+-- The word w is put on the stack, and counts where it has a next sibling
+pub record Pushed (stack stack′ : List ℕ) (top top′ w depth : ℕ) : Type 0 where
+  pub word : ℕ
+  pub is : Node word (cellOf w) (parentOf w) depth (nextOf w)
+  pub stored : stack′ ≡ set stack top word
+  pub last : nextOf w ≡ 0 → top′ ≡ top
+  pub more : ¬ (nextOf w ≡ 0) → top′ ≡ top + 1
+
+-- The lengths of the memory and of the arrays
+pub record Sizes (ws left way ks stack : List ℕ) : Type 0 where
+  pub words : length ws ≡ 12618
+  pub maps : length left ≡ 72
+  pub ways : length way ≡ 33
+  pub counts : length ks ≡ 33
+  pub stops : length stack ≡ 33
+
+-- What is asked of a node of forms that the link x leads to, with the word w
+pub record Asked (left : List ℕ) (x p low depth w : ℕ) : Type 0 where
+  pub some : 0 < x
+  pub node : x ≤ 4096
+  pub short : depth < 32
+  pub cell : cellOf w ≤ 32768
+  pub under : parentOf w ≡ p
+  pub above : low ≤ cellOf w
+  pub was : Marked left (x - 1)
+
+-- It is asked, and then the node is left no more
+pub record Entered (ws left left′ : List ℕ) (x p low depth w : ℕ) (r : Bool) : Type 0 where
+  pub yes : r ≡ true → Asked left x p low depth w
+  pub word : r ≡ true → w ≡ getD ws (72 + x) 0
+  pub gone : r ≡ true → marked left′ (x - 1) ≡ false
+  pub others : r ≡ true → (y : ℕ) → ¬ (y ≡ x - 1) → marked left′ y ≡ marked left y
+  pub no : r ≡ false → ¬ (Asked left x p low depth (getD ws (72 + x) 0))
+
+-- Down to the end of a form
+pub record Downed (ws left left′ way ks stack : List ℕ) (x p low depth top : ℕ) (r : Bool) : Type 0 where
+  pub at : r ≡ true → AtPlace ws left′ way ks stack x p low depth top
+  pub whole : r ≡ true → getD ks depth 0 % 65536 ≡ 0
+  pub fewer : r ≡ true → tally (marked left′) 4608 ≤ tally (marked left) 4608
+  pub no : r ≡ false → ¬ (Found ws)
+
+-- The words of a record are those of a whole term of this length, and zeros, with the blanks of the way
+pub record TermOf (words way : List ℕ) (depth : ℕ) : Type 0 where
+  pub whole : readTerm (fields words) ≡ Whole depth
+  pub clean : Zeros (fields words) depth
+  pub same : (j : ℕ) → j < depth → blankNumber (getD (fields words) j 0) ≡ blankNumber (getD way (j + 1) 0 % 65536)
+
+abbrev pub Decides : Type 0 → Bool → Type 0
+Decides A r = (r ≡ true → A) × (r ≡ false → ¬ A)
+
+-- The words of a record are those of the way, cell by cell, and zeros: then it is the most general term of the way's form
+pub record Plain (words way : List ℕ) (depth : ℕ) : Type 0 where
+  pub short : depth ≤ 15
+  pub same : (j : ℕ) → j < depth → getD (fields words) j 0 ≡ getD way (j + 1) 0 % 65536
+  pub clean : Zeros (fields words) depth
+
+-- So it is where the way is that of a row
+abbrev pub PlainOf : (words way : List ℕ) (depth : ℕ) → Type 0
+PlainOf words way depth = (ks row : List ℕ) → Kept way ks row → Low row → length row ≡ depth → Plain words way depth
+
+-- The record is decided where the way is that of a row behind which nothing is wanted
+pub record TermDecided (words way : List ℕ) (depth : ℕ) (r : Bool) : Type 0 where
+  pub yes : r ≡ true → (ks row : List ℕ) → Kept way ks row → Low row → length row ≡ depth → wants row ≡ 0 → TermOf words way depth
+  pub no : r ≡ false → ¬ (TermOf words way depth)
+
+-- The same for the rule at the place k: its number, the place of its number, and its record
+pub record RuleAt (ws way : List ℕ) (k depth : ℕ) : Type 0 where
+  pub low : number (view ws) k < 4096
+  pub found : view ws .place (number (view ws) k) ≡ k
+  pub size : view ws .size k ≡ depth
+  pub term : TermOf (take 8 (drop (8011 + 9 * k) ws)) way depth
+
+pub record RuleDecided (ws way : List ℕ) (k depth : ℕ) (r : Bool) : Type 0 where
+  pub yes : r ≡ true → (ks row : List ℕ) → Kept way ks row → Low row → length row ≡ depth → wants row ≡ 0 → RuleAt ws way k depth
+  pub no : r ≡ false → ¬ (RuleAt ws way k depth)
+
+-- What is asked of a rule that the link x leads to, with the word w
+pub record AskedRule (left : List ℕ) (x p low w : ℕ) : Type 0 where
+  pub rule : 4096 < x
+  pub most : x ≤ 4608
+  pub leaf : firstOf w ≡ 0
+  pub under : parentOf w ≡ p
+  pub above : low ≤ cellOf w
+  pub was : Marked left (x - 1)
+
+pub record RuleEntered (ws left left′ : List ℕ) (x p low w : ℕ) (r : Bool) : Type 0 where
+  pub yes : r ≡ true → AskedRule left x p low w
+  pub word : r ≡ true → w ≡ getD ws (72 + x) 0
+  pub gone : r ≡ true → marked left′ (x - 1) ≡ false
+  pub others : r ≡ true → (y : ℕ) → ¬ (y ≡ x - 1) → marked left′ y ≡ marked left y
+  pub no : r ≡ false → ¬ (AskedRule left x p low (getD ws (72 + x) 0))
+
+-- The walk stands at the end of a list of siblings
+pub record Over (ws left way ks stack : List ℕ) (depth top : ℕ) : Type 0 where
+  pub place : Place
+  pub row : List ℕ
+  pub stops : List Stop
+  pub standing : Standing (view ws .tree) Bare (Told (view ws)) place row stops (marked left)
+  pub leads : to (view ws .tree) place ≡ 0
+  pub bare : Bare place
+  pub deep : length row ≡ depth
+  pub short : depth ≤ 32
+  pub cells : Low row
+  pub stacked : Stacked (view ws .tree) stack top stops
+  pub kept : Kept way ks row
+
+-- Along the rules below a whole form
+pub record Ruled (ws left left′ way ks stack : List ℕ) (depth top : ℕ) (r : Bool) : Type 0 where
+  pub over : r ≡ true → Over ws left′ way ks stack depth top
+  pub fewer : r ≡ true → tally (marked left′) 4608 < tally (marked left) 4608
+  pub no : r ≡ false → ¬ (Found ws)
+
+-- No node is left
+abbrev pub Clear : List ℕ → Type 0
+Clear left = (n : ℕ) → marked left n ≡ false
+
+-- The place behind the stop with the word w
+pub record Popped (w t x p low d top : ℕ) : Type 0 where
+  pub x-is : x ≡ nextOf w
+  pub p-is : p ≡ parentOf w
+  pub low-is : low ≡ cellOf w + 1
+  pub d-is : d ≡ firstOf w
+  pub t-is : top ≡ t
