@@ -1,18 +1,17 @@
 # The two commands of the README: `make run` and `make test`. Each does all its own set-up.
-ARCHIVES := term claggyfoot
 CELLS ?= examples/session.cells
 SECONDS ?= 60
 SEED ?= 1
 
 SHOW := cargo run --offline --quiet --manifest-path rust/Cargo.toml -p show -- target/bin/session
 
-.PHONY: run test prove archives session rust examples soak bench fmt
+.PHONY: run test prove archive session rust examples soak bench fmt
 
 # A session in words, and as the session program prints it: the paper's, or another: make run CELLS=examples/lamp.cells
 run: session
 	@$(SHOW) '$(CELLS)'
 
-# Everything: the proofs from nothing, the must-fail edits and the programs (rt ci), then the archives beside the model,
+# Everything: the proofs from nothing, the must-fail edits and the programs (rt ci), then the archive beside the model,
 # then the examples. The verdict of rt ci is printed once more as the last line, after all else has passed.
 test:
 	@log=$$(mktemp); rt ci >$$log 2>&1; status=$$?; cat $$log; mkdir -p target; mv $$log target/rt-ci.log; exit $$status
@@ -23,21 +22,19 @@ test:
 prove:
 	rt check
 
-archives:
+archive:
 	@mkdir -p target
-	@for name in $(ARCHIVES); do \
-		log=target/staticlib-$$name.log; rt staticlib $$name >$$log 2>&1 || { cat $$log; exit 1; }; \
-	done
+	@log=target/staticlib.log; rt staticlib claggyfoot >$$log 2>&1 || { cat $$log; exit 1; }
 
 # The session program, which `make run` shows and the tests run beside the model.
 session:
 	@log=$$(mktemp); rt check session >$$log 2>&1 || { cat $$log; exit 1; }; rm -f $$log
 
-rust: archives session
+rust: archive session
 	cd rust && cargo test --offline --quiet
 
 # The example programs and sessions, each beside what it has to print.
-examples: archives session
+examples: archive session
 	@$(CC) -std=c99 -Wall -Wextra -Werror -Iinclude -o target/adventure \
 		examples/c/adventure.c target/staticlib/libclaggyfoot.a
 	@target/adventure >target/adventure.out && diff examples/c/adventure.out target/adventure.out
@@ -48,11 +45,11 @@ examples: archives session
 	@echo 'examples: each prints what it has to'
 
 # The archive beside the model for as long as told: make soak SECONDS=600 SEED=7
-soak: archives
+soak: archive
 	cd rust && env SECONDS=$(SECONDS) SEED=$(SEED) cargo run --offline --quiet --release -p soak
 
 # How long the calls take, beside three other ways to hold the rules: tables, target/bench.csv, docs/performance.svg.
-bench: archives
+bench: archive
 	cd rust && cargo run --offline --quiet --release -p bench
 
 fmt:

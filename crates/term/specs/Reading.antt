@@ -1,10 +1,8 @@
 -- Reading a term from cells: 01, 'Cells' and refusals 3, 4 and 5.
-use mathlib.Core.Path.{_≡_, sym, _∙_}
 use mathlib.Core.List.{List, [], _∷_}
 use mathlib.Core.Bool.{Bool, true, false}
 use Prim.Native.Nat.{ℕ, zero, suc, _+_, _-_, _/_}
 use lib.Dec.{ltb, leb}
-use lib.ListN.{drop}
 pub use Rattle.term.specs.declared.reading.Fault.{Fault}
 pub use Rattle.term.specs.declared.reading.Fault.the-variants.{TooLong, CutShort, FieldSet, AboveFifteen, AboveCount}
 pub use Rattle.term.specs.declared.reading.Taken.{Taken}
@@ -63,12 +61,3 @@ readingRefusal (Refused fault place) = refusalOf fault
 abbrev pub readingCells : Reading → ℕ
 readingCells (Whole length) = length
 readingCells (Refused fault place) = place
-
--- The promise of `cf_term_read`.
-pub record TermReads (cells : List ℕ) (start refusal count : ℕ) : Type 0 where
-  pub refused : refusal ≡ readingRefusal (readTerm (drop start cells))
-  pub counted : count ≡ readingCells (readTerm (drop start cells))
-
--- It allows one answer.
-pub term-reads-once : (cells : List ℕ) (start a b a′ b′ : ℕ) → TermReads cells start a b → TermReads cells start a′ b′ → (a ≡ a′) × (b ≡ b′)
-term-reads-once cells start a b a′ b′ p q = (p .refused ∙ sym (q .refused), p .counted ∙ sym (q .counted))
