@@ -6,7 +6,8 @@ use native.Mathlib.Omega.{arith}
 use lib.ListN.{length, getD}
 use Rattle.names.specs.Name.{IsName}
 use Rattle.names.specs.Table.{Holds, Passes, Missing, put}
-use Rattle.names.specs.Calls.{Given, no-table, no-name, held, new, no-slot, entryRefusal, entryNumber, tableAfter, Stands, bad-table, no-number, at, placeRefusal, placeStart, placeSize}
+use Rattle.names.specs.Cases.{Given, failing, no-name, held, new, no-slot, given, leaves}
+use Rattle.names.specs.Calls.{entryRefusal, entryNumber, tableAfter, Stands, bad-table, no-number, at, placeRefusal, placeStart, placeSize}
 use Rattle.names.specs.declared.Entry.{Entry}
 use Rattle.names.specs.declared.Entry.the-variants.{Held, New, NoTable, NoName, NoSlot}
 use Rattle.names.specs.declared.Place.{Place}
@@ -26,25 +27,25 @@ module _ {before name : List ℕ} {refusal number : ℕ} {after : List ℕ} (cal
 
   gave : (a : Entry) → Given before name a → Gave (entryRefusal a) (entryNumber a) (tableAfter before name a)
   gave a g =
-      let e = given-once (call .answer) a (call .enters .given) g in
+      let e = given-once (call .answer) a (given (call .enters)) g in
       record {
         refusal-is = call .refusal-is ∙ ap entryRefusal e;
         number-is = call .number-is ∙ ap entryNumber e;
-        table-is = call .enters .leaves ∙ ap (tableAfter before name) e;
+        table-is = leaves (call .enters) ∙ ap (tableAfter before name) e;
       }
 
   -- with this refusal the answer has its condition
   only : (r : ℕ) (P : Type 0) → ((a : Entry) → Given before name a → entryRefusal a ≡ r → P) → refusal ≡ r → P
-  only r P f e = f (call .answer) (call .enters .given) (sym (call .refusal-is) ∙ e)
+  only r P f e = f (call .answer) (given (call .enters)) (sym (call .refusal-is) ∙ e)
 
   refuses : (a : Entry) {P : Type 0} → (P → Given before name a) → ((b : Entry) → Given before name b → entryRefusal b ≡ entryRefusal a → P) → Exactly (refusal ≡ entryRefusal a) P (Gave (entryRefusal a) (entryNumber a) (tableAfter before name a))
   refuses a {P} f h = ((only (entryRefusal a) P h, λ p. gave a (f p) .refusal-is), λ p. gave a (f p))
 
   pub enter-1 : Exactly (refusal ≡ 1) (¬ (Passes before)) (Gave 1 0 before)
-  enter-1 = refuses NoTable no-table to
+  enter-1 = refuses NoTable failing to
     where
       to : (b : Entry) → Given before name b → entryRefusal b ≡ 1 → ¬ (Passes before)
-      to b (no-table f) e = f
+      to b (failing f) e = f
       to b (no-name p n) e = absurd (omega arith)
       to b (held h l q) e = absurd (omega arith)
       to b (new h n m z q) e = absurd (omega arith)
@@ -54,7 +55,7 @@ module _ {before name : List ℕ} {refusal number : ℕ} {after : List ℕ} (cal
   enter-11 = refuses NoName (λ x. no-name (x .0) (x .1)) to
     where
       to : (b : Entry) → Given before name b → entryRefusal b ≡ 11 → Passes before × ¬ (IsName name)
-      to b (no-table f) e = absurd (omega arith)
+      to b (failing f) e = absurd (omega arith)
       to b (no-name p n) e = (p, n)
       to b (held h l q) e = absurd (omega arith)
       to b (new h n m z q) e = absurd (omega arith)
@@ -64,7 +65,7 @@ module _ {before name : List ℕ} {refusal number : ℕ} {after : List ℕ} (cal
   enter-12 = refuses NoSlot (λ x. no-slot (x .1) (x .2) (x .3)) to
     where
       to : (b : Entry) → Given before name b → entryRefusal b ≡ 12 → (names : List (List ℕ)) × Holds before names 0 × IsName name × Missing names name
-      to b (no-table f) e = absurd (omega arith)
+      to b (failing f) e = absurd (omega arith)
       to b (no-name p n) e = absurd (omega arith)
       to b (held h l q) e = absurd (omega arith)
       to b (new h n m z q) e = absurd (omega arith)

@@ -3,8 +3,9 @@ use mathlib.Core.Path.{_≡_}
 use mathlib.Core.List.{List, []}
 use Prim.Native.Nat.{ℕ, _+_, _*_, _≤_, _<_}
 use lib.ListN.{length, getD, take, drop}
-use Rattle.names.specs.Name.{IsName}
-use Rattle.names.specs.Table.{Holds, Passes, Missing, put}
+use lib.Dec.{ltb}
+use Rattle.names.specs.Name.{pick, isName}
+use Rattle.names.specs.Table.{Holds, Passes, slotIn, put}
 pub use Rattle.names.specs.declared.Check.{Check}
 pub use Rattle.names.specs.declared.Check.the-variants.{Fails, Good}
 pub use Rattle.names.specs.declared.Entry.{Entry}
@@ -37,13 +38,13 @@ entryNumber NoTable = 0
 entryNumber NoName = 0
 entryNumber NoSlot = 0
 
--- Exactly when `enter` gives each answer, in the order 1, 11, held, 12.
-pub data Given (table name : List ℕ) : Entry → Type 0 where
-  no-table : (Passes table → ⊥) → Given table name NoTable
-  no-name : Passes table → (IsName name → ⊥) → Given table name NoName
-  held : {names : List (List ℕ)} {free k : ℕ} → Holds table names free → k < length names → getD names k [] ≡ name → Given table name (Held k)
-  new : {names : List (List ℕ)} {free k : ℕ} → Holds table names free → IsName name → Missing names name → 0 < free → k ≡ length names → Given table name (New k)
-  no-slot : {names : List (List ℕ)} → Holds table names 0 → IsName name → Missing names name → Given table name NoSlot
+-- The answer of `enter` for a table that holds these names and has so many free slots, in the order 11, held, 12.
+abbrev pub entryIn : List (List ℕ) → (free : ℕ) → List ℕ → Entry
+entryIn names free name =
+    pick (isName name)
+    (pick (ltb (slotIn names name) (length names)) (Held (slotIn names name))
+    (pick (ltb 0 free) (New (length names)) NoSlot))
+    NoName
 
 -- The table after each answer: a new name is written over the first free slot, and nothing else changes.
 abbrev pub tableAfter : List ℕ → List ℕ → Entry → List ℕ
@@ -53,10 +54,10 @@ tableAfter table name NoTable = table
 tableAfter table name NoName = table
 tableAfter table name NoSlot = table
 
--- The promise of `enter`.
-pub record Enters (before name : List ℕ) (answer : Entry) (after : List ℕ) : Type 0 where
-  pub given : Given before name answer
-  pub leaves : after ≡ tableAfter before name answer
+-- The promise of `enter`: 1 for a table that doesn't pass, else that answer; and every byte of the table after it.
+pub data Enters (before name : List ℕ) (answer : Entry) (after : List ℕ) : Type 0 where
+  entered : {names : List (List ℕ)} {free : ℕ} → Holds before names free → answer ≡ entryIn names free name → after ≡ tableAfter before name answer → Enters before name answer after
+  no-table : (Passes before → ⊥) → answer ≡ NoTable → after ≡ before → Enters before name answer after
 
 -- The paper's refusal, and where in the table the name stands, for each answer of `place_of`; refused, 0 bytes from byte 0.
 abbrev pub placeRefusal : Place → ℕ

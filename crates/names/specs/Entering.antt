@@ -8,7 +8,8 @@ use lib.ListN.{length, getD, take, drop, replicate, length-append, List·getD-ap
 use lib.Seq.{take-at, drop-append-add, getD-append-seam}
 use Rattle.names.specs.Name.{IsName}
 use Rattle.names.specs.Table.{Named, Apart, Missing, slotOf, slotsOf, put, Holds, Passes}
-use Rattle.names.specs.Calls.{Given, no-table, no-name, held, new, no-slot, Enters, tableAfter, Entry, Held, New, NoTable, NoName, NoSlot, entryRefusal, entryNumber, Stands, at, Place, At, NameIs, placeStart, placeSize}
+use Rattle.names.specs.Cases.{Given, failing, no-name, held, new, no-slot, given, leaves, enters-so}
+use Rattle.names.specs.Calls.{Enters, tableAfter, Entry, Held, New, NoTable, NoName, NoSlot, entryRefusal, entryNumber, Stands, at, Place, At, NameIs, placeStart, placeSize}
 use Rattle.names.specs.Slots.{slots-append, slots-length, slot-used, slot-name}
 use Rattle.names.specs.Once.{passes, enters-once, stands-once}
 
@@ -81,7 +82,7 @@ again NoName = NoName
 again NoSlot = NoSlot
 
 given-again : {t name : List ℕ} (a : Entry) → Given t name a → Given (tableAfter t name a) name (again a)
-given-again a (no-table f) = no-table f
+given-again a (failing f) = failing f
 given-again a (no-name p n) = no-name p n
 given-again a (held h l e) = held h l e
 given-again {t} {name} a (new {names = names} {free = free} {k = k} h n m z e) =
@@ -104,10 +105,7 @@ again-says NoName = (refl, refl)
 again-says NoSlot = (refl, refl)
 
 enters-again : {t name : List ℕ} (a : Entry) (s : List ℕ) → Enters t name a s → Enters s name (again a) s
-enters-again {t} {name} a s p = record {
-  given = subst (λ (x : List ℕ). Given x name (again a)) (sym (p .leaves)) (given-again a (p .given));
-  leaves = sym (again-stays s name a);
-}
+enters-again {t} {name} a s p = enters-so (again a) (subst (λ (x : List ℕ). Given x name (again a)) (sym (leaves p)) (given-again a (given p))) (sym (again-stays s name a))
 
 -- Entering a name twice gives the same refusal, the same number and the same table.
 pub record Same (a b : Entry) (s u : List ℕ) : Type 0 where
@@ -122,10 +120,10 @@ entered-twice a b s u p q =
 
 -- A table that passes still passes after any answer.
 pub stays-passing : {t name : List ℕ} (a : Entry) (s : List ℕ) → Enters t name a s → Passes t → Passes s
-stays-passing {t} {name} a s p q = subst Passes (sym (p .leaves)) (go a (p .given))
+stays-passing {t} {name} a s p q = subst Passes (sym (leaves p)) (go a (given p))
   where
     go : (x : Entry) → Given t name x → Passes (tableAfter t name x)
-    go x (no-table f) = q
+    go x (failing f) = q
     go x (no-name r n) = q
     go x (held h l e) = q
     go x (new h n m z e) = subst (λ (j : ℕ). Passes (put t j name)) (sym e) (passes (put-holds h name z n m))
@@ -148,10 +146,10 @@ module _ {t : List ℕ} {names : List (List ℕ)} {free : ℕ} (h : Holds t name
 
 -- The name of the number that `enter` gave is the name.
 pub entered-name : {t name : List ℕ} (a : Entry) (s part : List ℕ) → Enters t name a s → entryRefusal a ≡ 0 → NameIs s (entryNumber a) part → part ≡ name
-entered-name {t} {name} a s part p z q = go a (p .given) z (subst (λ (x : List ℕ). NameIs x (entryNumber a) part) (p .leaves) q)
+entered-name {t} {name} a s part p z q = go a (given p) z (subst (λ (x : List ℕ). NameIs x (entryNumber a) part) (leaves p) q)
   where
     go : (x : Entry) → Given t name x → entryRefusal x ≡ 0 → NameIs (tableAfter t name x) (entryNumber x) part → part ≡ name
-    go x (no-table f) r i = absurd (omega arith)
+    go x (failing f) r i = absurd (omega arith)
     go x (no-name f n) r i = absurd (omega arith)
     go x (held {k = k} h l e) r i = name-held h k l part i ∙ e
     go x (new {names = names} {free = free} {k = k} h n m y e) r i =

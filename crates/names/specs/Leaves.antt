@@ -1,9 +1,9 @@
 -- What the functions below the calls promise.
 use mathlib.Core.Path.{_≡_}
 use mathlib.Core.List.{List, [], _∷_, _++_}
-use Prim.Native.Nat.{ℕ, _+_, _*_, _/_, _%_, _^_, _≤_, _<_}
-use lib.Bits.{bitAnd}
+use Prim.Native.Nat.{ℕ, _+_, _*_, _%_, _≤_, _<_}
 use lib.ListN.{length, getD, drop}
+use Rattle.bits.specs.Packed.{bits}
 use Rattle.names.specs.Name.{IsName}
 use Rattle.names.specs.Table.{Named, Apart, slotOf, slotsOf, Passes}
 pub use Rattle.names.specs.declared.checking.Run.{Run}
@@ -38,8 +38,8 @@ abbrev pub hashOf : List ℕ → ℕ
 hashOf bytes = hashFrom 0 bytes
 
 -- The map of hashes has a bit for each.
-unfoldable pub Met : List ℕ → ℕ → Type 0
-Met seen h = 0 < bitAnd (getD seen (h / 8) 0) (2 ^ (h % 8))
+abbrev pub Met : List ℕ → ℕ → Type 0
+Met seen h = getD (bits seen) h 0 ≡ 1
 
 pub record Meets (before : List ℕ) (h : ℕ) (after : List ℕ) : Type 0 where
   pub here : Met after h

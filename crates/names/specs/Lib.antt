@@ -1,8 +1,9 @@
 -- What the crate's contracts mean. `Name`, `Table` and `Calls` are the paper's words, and `Examples` tries them. The modules
--- after these change no meaning: `Slots`, `Once` and `Entering` are laws, `Leaves` what the functions below the calls promise.
+-- after these change no meaning: `Cases`, `Slots`, `Once` and `Entering` are laws, `Leaves` what the functions below the calls promise.
 pub mod Name
 pub mod Table
 pub mod Calls
+pub mod Cases
 pub mod Examples
 pub mod Slots
 pub mod Once

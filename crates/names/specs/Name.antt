@@ -1,8 +1,9 @@
 -- What a name is: 01, refusal 11. A space is a character, and nothing is trimmed.
 use mathlib.Core.Path.{_≡_}
-use mathlib.Core.List.{List}
+use mathlib.Core.List.{List, [], _∷_}
 use mathlib.Core.Bool.{Bool, true, false}
 use Prim.Native.Nat.{ℕ, _-_, _≤_, _<_}
+use lib.Dec.{eqb, leb, ltb}
 use lib.ListN.{length, getD}
 
 -- 11 doesn't refuse these bytes: 1 to 31 of them, each from 32 to 126, the first and the last no space.
@@ -17,3 +18,21 @@ pub record IsName (name : List ℕ) : Type 0 where
 pub record Decides (P : Type 0) (b : Bool) : Type 0 where
   pub yes : b ≡ true → P
   pub no : b ≡ false → P → ⊥
+
+-- ---- the same, computed
+
+abbrev pub pick : {X : Type 0} → Bool → X → X → X
+pick true a b = a
+pick false a b = b
+
+unfoldable pub printed : List ℕ → Bool
+printed [] = true
+printed (byte ∷ bytes) = pick (leb 32 byte) (pick (leb byte 126) (printed bytes) false) false
+
+abbrev pub isName : List ℕ → Bool
+isName name =
+    pick (ltb 0 (length name))
+    (pick (leb (length name) 31)
+    (pick (printed name)
+    (pick (eqb (getD name 0 0) 32) false
+    (pick (eqb (getD name (length name - 1) 0) 32) false true)) false) false) false

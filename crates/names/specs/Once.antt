@@ -1,15 +1,15 @@
 -- Each call's promise allows one outcome. It all rests on one law: a table holds one list of names.
-use mathlib.Core.Path.{_≡_, refl, sym, ap, subst, _∙_}
+use mathlib.Core.Path.{_≡_, refl, sym, ap, ap₂, _∙_}
 use mathlib.Core.Bool.{Bool, true, false}
 use mathlib.Core.List.{List, [], _∷_, _++_, append-assoc}
-use Prim.Native.Nat.{ℕ, _+_, _*_, _<_}
+use Prim.Native.Nat.{ℕ, _+_, _*_}
 use native.Mathlib.Omega.{arith}
-use native.Mathlib.Decide.{decLt}
 use lib.ListN.{length, getD, take, drop, replicate, length-replicate}
 use lib.Seq.{take-at, drop-at}
 use Rattle.names.specs.Name.{IsName, Decides}
-use Rattle.names.specs.Table.{Named, slotOf, slotsOf, Holds, Passes, Missing}
-use Rattle.names.specs.Calls.{Given, no-table, no-name, held, new, no-slot, Enters, tableAfter, Entry, Held, New, Stands, bad-table, no-number, at, Place, NameIs, NameRefused, placeRefusal, placeStart, placeSize, Check, Fails, Good, Checks}
+use Rattle.names.specs.Table.{Named, slotOf, slotsOf, Holds, Passes}
+use Rattle.names.specs.Cases.{Given, leaves, enters-so}
+use Rattle.names.specs.Calls.{entryIn, Enters, entered, no-table, tableAfter, Entry, Stands, bad-table, no-number, at, Place, NameIs, NameRefused, placeRefusal, placeStart, placeSize, Check, Fails, Good, Checks}
 use Rattle.names.specs.Slots.{named-rest, slot-length, slot-once, zero-at}
 
 -- A bool decides one way.
@@ -66,59 +66,18 @@ module _ {t : List ℕ} {a b : List (List ℕ)} {f g : ℕ} (h : Holds t a f) (k
 pub passes : {t : List ℕ} {a : List (List ℕ)} {f : ℕ} → Holds t a f → Passes t
 passes {t} {a} {f} h = record { names = a; free = f; holds = h }
 
--- A name is held in one slot only.
-pub slot-held-once : {t : List ℕ} {a : List (List ℕ)} {f : ℕ} → Holds t a f → (j k : ℕ) (name : List ℕ) → j < length a → k < length a → getD a j [] ≡ name → getD a k [] ≡ name → j ≡ k
-slot-held-once {t} {a} h j k name lj lk ej ek = go (decLt j k) (decLt k j)
-  where
-    go : Dec (j < k) → Dec (k < j) → j ≡ k
-    go (yes l) d = absurd (h .apart j k l lk (ej ∙ sym ek))
-    go (no l) (yes m) = absurd (h .apart k j m lj (ek ∙ sym ej))
-    go (no l) (no m) = omega arith
-
-module _ {t : List ℕ} {a b : List (List ℕ)} {f g : ℕ} (h : Holds t a f) (i : Holds t b g) (k : ℕ) (name : List ℕ) (l : k < length a) (e : getD a k [] ≡ name) where
-  -- What one list of names has, the other has in the same slot.
-  there : k < length b
-  there = omega (arith, ap length (names-once h i))
-
-  same-there : getD b k [] ≡ name
-  same-there = ap (λ (names : List (List ℕ)). getD names k []) (sym (names-once h i)) ∙ e
-
-  not-missing : Missing b name → ⊥
-  not-missing m = m k there same-there
-
--- The condition of `enter`'s answer holds of one answer only.
-pub given-once : {t name : List ℕ} (a b : Entry) → Given t name a → Given t name b → a ≡ b
-given-once a b (no-table f) (no-table g) = refl
-given-once a b (no-table f) (no-name p n) = absurd (f p)
-given-once a b (no-table f) (held h l e) = absurd (f (passes h))
-given-once a b (no-table f) (new h n m z e) = absurd (f (passes h))
-given-once a b (no-table f) (no-slot h n m) = absurd (f (passes h))
-given-once a b (no-name p n) (no-table f) = absurd (f p)
-given-once a b (no-name p n) (no-name q m) = refl
-given-once a b (no-name p n) (held {k = k} h l e) = absurd (n (subst IsName e (h .named k l)))
-given-once a b (no-name p n) (new h i m z e) = absurd (n i)
-given-once a b (no-name p n) (no-slot h i m) = absurd (n i)
-given-once a b (held h l e) (no-table f) = absurd (f (passes h))
-given-once a b (held {k = k} h l e) (no-name p n) = absurd (n (subst IsName e (h .named k l)))
-given-once {t} {name} a b (held {k = j} h l e) (held {k = k} i m d) =
-    ap Held (slot-held-once i j k name (there h i j name l e) m (same-there h i j name l e) d)
-given-once {t} {name} a b (held {k = k} h l e) (new i n m z d) = absurd (not-missing h i k name l e m)
-given-once {t} {name} a b (held {k = k} h l e) (no-slot i n m) = absurd (not-missing h i k name l e m)
-given-once a b (new h n m z e) (no-table f) = absurd (f (passes h))
-given-once a b (new h n m z e) (no-name p i) = absurd (i n)
-given-once {t} {name} a b (new i n m z d) (held {k = k} h l e) = absurd (not-missing h i k name l e m)
-given-once a b (new h n m z e) (new i o p y d) = ap New (e ∙ ap length (names-once h i) ∙ sym d)
-given-once a b (new h n m z e) (no-slot i o p) = absurd (omega (arith, free-once h i))
-given-once a b (no-slot h n m) (no-table f) = absurd (f (passes h))
-given-once a b (no-slot h n m) (no-name p i) = absurd (i n)
-given-once {t} {name} a b (no-slot i n m) (held {k = k} h l e) = absurd (not-missing h i k name l e m)
-given-once a b (no-slot h n m) (new i o p z d) = absurd (omega (arith, free-once h i))
-given-once a b (no-slot h n m) (no-slot i o p) = refl
-
 pub enters-once : {t name : List ℕ} (a b : Entry) (s u : List ℕ) → Enters t name a s → Enters t name b u → (a ≡ b) × (s ≡ u)
-enters-once {t} {name} a b s u p q =
-    let e = given-once a b (p .given) (q .given) in
-    (e, p .leaves ∙ ap (tableAfter t name) e ∙ sym (q .leaves))
+enters-once {t} {name} a b s u p q = let e = same-answer p q in (e, leaves p ∙ ap (tableAfter t name) e ∙ sym (leaves q))
+  where
+    same-answer : Enters t name a s → Enters t name b u → a ≡ b
+    same-answer (entered h e l) (entered i f m) = e ∙ ap₂ (λ (x : List (List ℕ)) (z : ℕ). entryIn x z name) (names-once h i) (free-once h i) ∙ sym f
+    same-answer (entered h e l) (no-table f g m) = absurd (f (passes h))
+    same-answer (no-table f e l) (entered h g m) = absurd (f (passes h))
+    same-answer (no-table f e l) (no-table g h m) = e ∙ sym h
+
+-- So the condition of an answer holds of one answer only.
+pub given-once : {t name : List ℕ} (a b : Entry) → Given t name a → Given t name b → a ≡ b
+given-once {t} {name} a b p q = enters-once a b (tableAfter t name a) (tableAfter t name b) (enters-so a p refl) (enters-so b q refl) .0
 
 pub stands-once : {t : List ℕ} {number : ℕ} (p q : Place) → Stands t number p → Stands t number q → p ≡ q
 stands-once p q (bad-table f) (bad-table g) = refl

@@ -1,9 +1,11 @@
 -- What a table is: 01, 'Names'. A table is its used slots, a name in each, and then free slots; a name's number is its slot.
 use mathlib.Core.Path.{_≡_}
 use mathlib.Core.List.{List, [], _∷_, _++_}
-use Prim.Native.Nat.{ℕ, _+_, _-_, _*_, _≤_, _<_}
+use Prim.Native.Nat.{ℕ, suc, _+_, _-_, _*_, _≤_, _<_}
 use lib.ListN.{length, getD, take, drop, replicate}
-use Rattle.names.specs.Name.{IsName}
+use mathlib.Core.Bool.{Bool, true, false}
+use lib.Dec.{eqb}
+use Rattle.names.specs.Name.{IsName, pick}
 
 -- A used slot: the length, the name, zeros to the 32nd byte.
 unfoldable pub slotOf : List ℕ → List ℕ
@@ -23,6 +25,17 @@ Apart names = (j k : ℕ) → j < k → k < length names → getD names j [] ≡
 
 abbrev pub Missing : List (List ℕ) → List ℕ → Type 0
 Missing names name = (k : ℕ) → k < length names → getD names k [] ≡ name → ⊥
+
+-- The slot of a name among these, the first that agrees byte by byte; their number where none does.
+unfoldable pub same : List ℕ → List ℕ → Bool
+same [] [] = true
+same [] (b ∷ t) = false
+same (a ∷ s) [] = false
+same (a ∷ s) (b ∷ t) = pick (eqb a b) (same s t) false
+
+unfoldable pub slotIn : List (List ℕ) → List ℕ → ℕ
+slotIn [] name = 0
+slotIn (held ∷ names) name = pick (same held name) 0 (suc (slotIn names name))
 
 -- The table holds these names, in the order of their numbers, and has so many free slots after them; 1 to 1,024 slots in all.
 pub record Holds (table : List ℕ) (names : List (List ℕ)) (free : ℕ) : Type 0 where

@@ -1,10 +1,9 @@
 // The check of a table.
 ghost use mathlib.Core.Path.{_≡_};
-ghost use Prim.Native.Nat.{_*_, _^_, _≤_, _<_};
+ghost use Prim.Native.Nat.{_*_, _≤_};
 ghost use lib.ListN.{length};
-ghost use Rattle.names.specs.Name.{Decides};
 ghost use Rattle.names.specs.Calls.{Checks};
-ghost use Rattle.names.specs.Leaves.{Runs, Met, Meets};
+ghost use Rattle.names.specs.Leaves.{Runs};
 use crate::Check;
 use crate::SLOT;
 use crate::SLOTS;
@@ -20,36 +19,13 @@ pub enum Run {
     Upto(usize),
 }
 
-// The i-th bit of a byte.
-fn bit(i: usize) -> u8
-    requires { ⌜ i < 8 ⌝ }
-    ensures { λ r. ⌜ r ≡ 2 ^ i ⌝ }
-{
-    1 << i
-}
-
-// Whether a name with this hash was met.
-fn met(seen: &[u8], h: usize) -> bool
-    requires { ⌜ h < 8 * length (now seen) ⌝ }
-    ensures { λ r. ⌜ Decides (Met (now (seen .entry)) h) r ⌝ }
-{
-    0 < seen[h / 8] & bit(h % 8)
-}
-
-fn meet(seen: &mut [u8], h: usize)
-    requires { ⌜ h < 8 * length (now seen) ⌝ }
-    ensures { λ _. ⌜ Meets (now (seen .entry)) h (now (seen .exit)) ⌝ }
-{
-    seen[h / 8] = seen[h / 8] | bit(h % 8);
-}
-
 // A hash that no earlier slot has shows a new name; where one has it, the earlier slots are searched. So the work grows with
 // the table and not with its square.
 fn used_slots(table: &[u8], slots: usize) -> Run
     requires { ⌜ (length (now table) ≡ 32 * slots) × (slots ≤ 1024) ⌝ }
     ensures { λ r. ⌜ Runs (now (table .entry)) slots r ⌝ }
 {
-    let mut seen = [0u8; 4096];
+    let mut seen = [0u64; 512];
     let mut slot = 0;
     while slot < slots {
         let at = SLOT * slot;
@@ -64,12 +40,12 @@ fn used_slots(table: &[u8], slots: usize) -> Run
         let from = at + 1;
         let to = from + size;
         let h = hash(&table[from..to]);
-        if met(&seen, h) {
+        if bits::is_marked(&seen, h) {
             if find(table, slot, &table[from..to]) < slot {
                 return Run::Broken;
             }
         }
-        meet(&mut seen, h);
+        bits::mark(&mut seen, h);
         slot += 1;
     }
     Run::Upto(slot)

@@ -9,7 +9,7 @@ enter-passing-requires : tie.Need-enter-passing-requires
 enter-passing-requires c κs = let d = c .before .before in subst (Checks _) (d .held .given .1) (d .before .before .check .ensures)
 
 returns : tie.Need-returns
-returns c = record { given = no-table (subst (Checks _) (c .enum-told .given .1) (c .before .before .check .ensures)); leaves = refl }
+returns c = no-table (subst (Checks _) (c .enum-told .given .1) (c .before .before .check .ensures)) refl refl
 
 pub enter-spec : {M : Type 1} → statement M
 enter-spec =

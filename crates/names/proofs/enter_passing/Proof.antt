@@ -1,4 +1,4 @@
--- Each way out is one case of `Given`; what the search finds among the slots it finds among the names.
+-- Each way out is one case of the answer; what the search finds among the slots it finds among the names.
 use mathlib.Core.Path.{refl, sym, subst, _∙_}
 use Prim.Native.Nat.{_<_}
 use native.Mathlib.Omega.{arith}
@@ -7,7 +7,7 @@ use borrow.Author.Tests.{not-true, not-false}
 use denote.Ref.{now}
 use Rattle.names.specs.Name.{IsName}
 use Rattle.names.specs.Table.{Holds}
-use Rattle.names.specs.Calls.{no-name, held, new, no-slot}
+use Rattle.names.specs.Cases.{no-name, held, new, no-slot, enters-so}
 use Rattle.names.specs.Once.{passes}
 use Rattle.names.proofs.Running.{length-is}
 use Rattle.names.proofs.Writing.{found-name, found-none, written-put}
@@ -21,7 +21,7 @@ named c = c .before .is-name .ensures .yes (not-false _ (c .if1 .left))
 returns : tie.Need-returns
 returns c =
     let s = c .before .before .before .before in
-    record { given = no-name (passes (s .pre .holds)) (c .before .is-name .ensures .no (not-true _ (c .if1 .taken))); leaves = refl }
+    enters-so _ (no-name (passes (s .pre .holds)) (c .before .is-name .ensures .no (not-true _ (c .if1 .taken)))) refl
 
 find-requires : tie.Need-find-requires
 find-requires c κs =
@@ -33,13 +33,13 @@ returns-2 : tie.Need-returns-2
 returns-2 c =
     let k = c .before .before .before .before .before .before .before .pre in
     let l = c .if2 .taken in
-    record { given = held {k = c .before .find .result} (k .holds) (omega (arith, k .count)) (found-name (k .holds) _ (k .count) _ _ (c .before .find .ensures) l); leaves = refl }
+    enters-so _ (held {k = c .before .find .result} (k .holds) (omega (arith, k .count)) (found-name (k .holds) _ (k .count) _ _ (c .before .find .ensures) l)) refl
 
 returns-3 : tie.Need-returns-3
 returns-3 c =
     let f = c .before .before in
     let k = f .before .before .before .before .before .before .pre in
-    record { given = no-slot (subst (Holds _ (k .names)) (c .if3 .taken) (k .holds)) (named (f .before .before)) (found-none (k .holds) _ (k .count) _ _ (f .find .ensures) (c .before .if2 .left)); leaves = refl }
+    enters-so _ (no-slot (subst (Holds _ (k .names)) (c .if3 .taken) (k .holds)) (named (f .before .before)) (found-none (k .holds) _ (k .count) _ _ (f .find .ensures) (c .before .if2 .left))) refl
 
 write-requires : tie.Need-write-requires
 write-requires c κs =
@@ -57,10 +57,8 @@ returns-4 c =
     let k = s .pre in
     let n = named (f .before .before) in
     let room : 0 < s .args .free = omega arith in
-    record {
-      given = new (k .holds) n (found-none (k .holds) _ (k .count) _ _ (f .find .ensures) (e .before .if2 .left)) room (sym (k .count));
-      leaves = w .write .ensures ∙ written-put (k .holds) (now (s .args .name)) (omega arith) room (s .args .held) (k .count);
-    }
+    enters-so _ (new (k .holds) n (found-none (k .holds) _ (k .count) _ _ (f .find .ensures) (e .before .if2 .left)) room (sym (k .count)))
+    (w .write .ensures ∙ written-put (k .holds) (now (s .args .name)) (omega arith) room (s .args .held) (k .count))
 
 pub enter-passing-spec : {M : Type 1} → statement M
 enter-passing-spec =

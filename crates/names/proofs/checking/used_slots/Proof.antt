@@ -7,13 +7,15 @@ use borrow.Author.Needs.{needs}
 use borrow.Author.Tests.{not-true, not-false}
 use lib.ListN.{length, length-take, length-drop, length-replicate, List·getD-eq-default}
 use denote.Ref.{now}
+use borrow.Author.Tests.{eqb-false}
 use Rattle.names.specs.Leaves.{Sofar, Used, Met, Meets}
+use Rattle.names.proofs.Bits.{marked}
 use Rattle.names.proofs.Running.{slotHere, broken-slot, broken-twice, size-is, new-by-hash, new-by-search, sofar-more, sofar-none}
 use Rattle.names.proofs.checking.used_slots.Statement.{statement}
 use Rattle.names.proofs.checking.used_slots.Tie as tie
 
 abbrev Inv-loop : tie.InvT-loop
-Inv-loop table slots seen₀ slot₀ seen slot = (slot ≤ slots) × (length seen ≡ 4096) × Sofar table seen slot
+Inv-loop table slots seen₀ slot₀ seen slot = (slot ≤ slots) × (length seen ≡ 512) × Sofar table seen slot
 
 abbrev μ-loop : tie.MeasureT-loop
 μ-loop table slots seen₀ slot₀ seen slot = slots - slot
@@ -31,7 +33,7 @@ short c =
     omega (arith, size-is (now (l .before .before .args .table)) (l .loop .slot) _ (e .before .wide .ensures .0) (e .if1 .left) u)
 
 loop-holds : tie.Need-loop-holds Inv-loop μ-loop
-loop-holds c = (omega arith, length-replicate {A = ℕ} 4096 0, sofar-none _ _)
+loop-holds c = (omega arith, length-replicate {A = ℕ} 512 0, sofar-none _ _)
 
 returns : tie.Need-returns Inv-loop μ-loop
 returns c =
@@ -59,11 +61,11 @@ sub-hash c = omega (arith, short c)
 part-hash-end : tie.Need-part-hash-end Inv-loop μ-loop
 part-hash-end c = omega (arith, short c)
 
-slice-aggregate-met : tie.Need-slice-aggregate-met Inv-loop μ-loop
-slice-aggregate-met c = sym (c .before .before .before .before .before .before .before .before .before .before .loop .inv .1)
+slice-aggregate-is-marked : tie.Need-slice-aggregate-is-marked Inv-loop μ-loop
+slice-aggregate-is-marked c = sym (c .before .before .before .before .before .before .before .before .before .before .loop .inv .1)
 
-met-requires : tie.Need-met-requires Inv-loop μ-loop
-met-requires c κs = omega (arith, c .before .hash .ensures .1)
+is-marked-requires : tie.Need-is-marked-requires Inv-loop μ-loop
+is-marked-requires c κs = omega (arith, c .before .hash .ensures .1)
 
 sub-find : tie.Need-sub-find Inv-loop μ-loop
 sub-find c = omega arith
@@ -84,11 +86,11 @@ returns-3 c =
     broken-twice (now (l .before .before .args .table)) (l .loop .slot) _ (e .before .wide .ensures .0) (e .if1 .left) (used d)
     (c .before .find .result) (c .if4 .taken) (c .before .find .ensures .here (c .if4 .taken))
 
-slice-aggregate-meet : tie.Need-slice-aggregate-meet Inv-loop μ-loop
-slice-aggregate-meet c = sym (c .before .before .before .before .before .before .before .before .before .before .before .before .before .loop .inv .1)
+slice-aggregate-mark : tie.Need-slice-aggregate-mark Inv-loop μ-loop
+slice-aggregate-mark c = sym (c .before .before .before .before .before .before .before .before .before .before .before .before .before .loop .inv .1)
 
-meet-requires : tie.Need-meet-requires Inv-loop μ-loop
-meet-requires c κs = omega (arith, c .before .before .before .before .hash .ensures .1)
+mark-requires : tie.Need-mark-requires Inv-loop μ-loop
+mark-requires c κs = omega (arith, c .before .before .before .before .hash .ensures .1)
 
 loop-again : tie.Need-loop-again Inv-loop μ-loop
 loop-again c =
@@ -104,12 +106,12 @@ loop-again c =
     ⊎-elim
     (λ w. new-by-search t (l .loop .slot) _ first (e .if1 .left) (used d) (l .loop .seen) so (w .2 .result) (w .2 .ensures) (w .3 .left))
     (λ w. new-by-hash t (l .loop .slot) _ first (e .if1 .left) (used d) (l .loop .seen) so
-    (λ y. m .met .ensures .no (w .left) (subst (Met (l .loop .seen)) (sym hash) y)))
+    (λ y. eqb-false _ 1 (sym (m .is-marked .ensures) ∙ w .left) (subst (Met (l .loop .seen)) (sym hash) y)))
     (c .before .before .before .if3 .came) in (
       omega arith,
-      c .before .meet .kept .0 ∙ l .loop .inv .1,
-      sofar-more t (l .loop .slot) _ first (e .if1 .left) (used d) (l .loop .seen) so missing (c .before .meet .last .0)
-          (subst (λ (h : ℕ). Meets (l .loop .seen) h (c .before .meet .last .0)) hash (c .before .meet .ensures)),
+      c .before .mark .kept .0 ∙ l .loop .inv .1,
+      sofar-more t (l .loop .slot) _ first (e .if1 .left) (used d) (l .loop .seen) so missing (c .before .mark .last .0)
+          (subst (λ (h : ℕ). Meets (l .loop .seen) h (c .before .mark .last .0)) hash (marked (l .loop .seen) _ _ (omega (arith, m .before .before .hash .ensures .1, l .loop .inv .1)) (c .before .mark .ensures))),
     )
 
 returns-4 : tie.Need-returns-4 Inv-loop μ-loop
@@ -141,15 +143,15 @@ used-slots-spec =
     (λ c. search needs)
     part-hash-end
     (λ c κs. search needs)
-    slice-aggregate-met
-    met-requires
+    slice-aggregate-is-marked
+    is-marked-requires
     sub-find
     (λ c. search needs)
     part-find-end
     find-requires
     returns-3
-    slice-aggregate-meet
-    meet-requires
+    slice-aggregate-mark
+    mark-requires
     (λ c. search needs)
     (λ c. search needs)
     loop-again
