@@ -1,21 +1,14 @@
--- The cell at a place begins a command, and the term behind it is a part of the cells.
-use mathlib.Core.Path.{_≡_, sym, ap, _∙_, subst}
+-- The term behind a command cell is a part of the cells.
+use mathlib.Core.Path.{_≡_, ap}
 use mathlib.Core.List.{List}
-use Prim.Native.Nat.{ℕ, suc, _+_, _-_, _/_, _%_, _≤_, _<_}
+use Prim.Native.Nat.{ℕ, _+_, _-_, _≤_}
 use native.Mathlib.Omega.{arith}
-use lib.ListN.{length, getD, take, drop, length-drop}
-use lib.Seq.{drop-cons}
+use lib.ListN.{length, take, drop, length-drop}
 use Rattle.term.specs.Reading.{readTerm}
 use Rattle.term.specs.Whole.{whole-term}
 use Rattle.term.specs.declared.reading.Reading.the-variants.{Whole}
 use Rattle.book.specs.Promises.{IsTerm}
-use Rattle.batch.specs.Commands.{commandOf, commandIn}
-use Rattle.batch.specs.Promises.{Read}
-use Rattle.batch.specs.Laws.{whole-behind, read-of}
-
--- the cells from a place on are the cell there and those behind it
-pub first-cell : (cells : List ℕ) (at : ℕ) → at < length cells → commandIn (drop at cells) ≡ commandOf (getD cells at 0 / 4096) (getD cells at 0 % 4096) (drop (at + 1) cells)
-first-cell cells at h = ap commandIn (drop-cons cells at 0 h) ∙ ap (λ (n : ℕ). commandOf (getD cells at 0 / 4096) (getD cells at 0 % 4096) (drop n cells)) (let e : suc at ≡ at + 1 = omega arith in e)
+use Rattle.commands.specs.Laws.{whole-behind}
 
 -- ---- the term behind a command cell
 
@@ -32,6 +25,3 @@ inside cells from size e =
 -- the part that is lent
 pub part-is : (cells : List ℕ) (from size : ℕ) → take (from + size - from) (drop from cells) ≡ take size (drop from cells)
 part-is cells from size = ap (λ (n : ℕ). take n (drop from cells)) (let e : from + size - from ≡ size = omega arith in e)
-
-pub read-at : (cells : List ℕ) (at : ℕ) → at < length cells → Read (drop (at + 1) cells) (commandIn (drop at cells))
-read-at cells at h = subst (Read (drop (at + 1) cells)) (sym (first-cell cells at h)) (read-of (getD cells at 0 / 4096) (getD cells at 0 % 4096) (drop (at + 1) cells) (omega arith))

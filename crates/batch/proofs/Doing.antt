@@ -14,9 +14,8 @@ use Rattle.term.specs.Machine.{fillsQuestion, fillsRule}
 use Rattle.book.specs.declared.Added.{Added}
 use Rattle.book.specs.declared.Added.the-variants.{Taken, HeldAlready, BookFull, NoNodes}
 use Rattle.book.specs.declared.Removed.{Removed}
-use Rattle.book.specs.Rules.{Held, nothing, rule, Rules, isHeld, withRule, withoutRule, ruleCount, nodesOf, addRefusal, pickAdded, judged, after}
+use Rattle.book.specs.Rules.{Held, nothing, rule, Rules, isHeld, withRule, withoutRule, ruleCount, nodesOf, addRefusal, pickAdded, judged, after, removal, removeRefusal}
 use Rattle.book.specs.Memory.{Passing, rulesIn}
-use Rattle.book.specs.Rules.{removal, removeRefusal}
 use Rattle.book.specs.Promises.{Shows, shownSize, shownCells}
 use Rattle.change.specs.Promises.{Adds, Removes}
 use Rattle.book.specs.Facts.{limited}
@@ -24,9 +23,13 @@ use Rattle.questions.specs.Asking.{numbers, answers}
 use Rattle.questions.specs.Demand2.{never-more}
 use Rattle.questions.specs.Promises.{Asked, Lists}
 use Rattle.questions.specs.Listing.{numbers-answers}
-use Rattle.batch.specs.Records.{Record, bare, good}
-use Rattle.batch.specs.Commands.{Command, Add, Remove, Ask, Show, Room, Stops, modeOf, Change, Effect, tells, changeOf, adds, changeAt, removes, asks, shown, shows, counts, does}
-use Rattle.batch.specs.Promises.{Writes, Along, none, then, Becomes, Does}
+use Rattle.commands.specs.Records.{Record, bare, good}
+use Rattle.commands.specs.declared.reader.Command.{Command}
+use Rattle.commands.specs.declared.reader.Command.the-variants.{Add, Remove, Ask, Show, Room, Stops}
+use Rattle.commands.specs.Commands.{modeOf}
+use Rattle.batch.specs.Effects.{Change, Effect, tells, changeOf, adds, changeAt, removes, asks, shown, shows, counts, does}
+use Rattle.commands.specs.Writing.{Writes}
+use Rattle.batch.specs.Promises.{Along, none, then, Becomes, Does}
 
 -- nothing has changed
 pub stays : (ws : List ℕ) → Passing ws → Becomes ws ws (rulesIn ws) []

@@ -1,6 +1,5 @@
 -- What the proofs of the batch share.
 pub mod Commanding
-pub mod Writing
 pub mod Doing
 pub mod Turning
 pub mod Looping

@@ -7,10 +7,11 @@ use lib.ListN.{length, getD, take, drop, length-drop, drop-of-length-le, take-ap
 use lib.Seq.{take-append-add, drop-append-add, drop-cons, drop-drop, length-take-le, take-all}
 use borrow.Rule.Slice.PartMut.{putMid, midOf, same-len-mid}
 use Rattle.book.specs.Memory.{Passing, rulesIn}
-use Rattle.batch.specs.Commands.{Command, commandIn, termSize, stopOf, does}
-use Rattle.batch.specs.Promises.{Read, Does, Ran}
-use Rattle.batch.specs.Laws.{size-inside}
-use Rattle.batch.proofs.Commanding.{read-at}
+use Rattle.commands.specs.declared.reader.Command.{Command}
+use Rattle.commands.specs.Commands.{commandIn, termSize, stopOf, Read}
+use Rattle.batch.specs.Effects.{does}
+use Rattle.batch.specs.Promises.{Does, Ran}
+use Rattle.commands.specs.Laws.{size-inside, read-at}
 use Rattle.batch.proofs.Turning.{all-used, no-room, fits, stops, goes-on}
 
 -- What holds before each command, u cells used and w written.

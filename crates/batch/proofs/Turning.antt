@@ -8,8 +8,10 @@ use lib.ListN.{length, take, drop, length-append, length-drop}
 use lib.Seq.{take-at, drop-at, drop-drop}
 use Rattle.book.specs.Rules.{Rules}
 use Rattle.book.specs.Memory.{Passing, rulesIn}
-use Rattle.batch.specs.Records.{cellsOf, written}
-use Rattle.batch.specs.Commands.{Command, commandIn, termSize, stopOf, Change, Effect, does}
+use Rattle.commands.specs.Records.{cellsOf, written}
+use Rattle.commands.specs.declared.reader.Command.{Command}
+use Rattle.commands.specs.Commands.{commandIn, termSize, stopOf}
+use Rattle.batch.specs.Effects.{Change, Effect, does}
 use Rattle.batch.specs.Run.{Outcome, goesOn, run}
 use Rattle.batch.specs.Promises.{Becomes, Does, Came, Ran}
 use Rattle.batch.specs.Laws.{run-none, run-10, run-stops, run-goes-on, along-on}

@@ -1,7 +1,5 @@
--- The batch: records, commands, what a batch is, what the functions promise.
-pub mod Records
-pub mod Reader
-pub mod Commands
+-- The batch: what a command does, what a batch is, what the functions promise.
+pub mod Effects
 pub mod Run
 pub mod Promises
 pub mod Laws

@@ -1,31 +1,16 @@
 -- What the batch's functions promise.
 use mathlib.Core.Path.{_≡_}
 use mathlib.Core.List.{List, [], _∷_, _++_}
-use Prim.Native.Nat.{ℕ, suc, _≤_, _<_}
+use Prim.Native.Nat.{ℕ, _≤_, _<_}
 use lib.ListN.{length, drop}
-use Rattle.term.specs.Reading.{readTerm}
-use Rattle.term.specs.declared.reading.Reading.the-variants.{Whole}
 use Rattle.tree.specs.Shape.{Shape}
 use Rattle.book.specs.Rules.{Rules}
 use Rattle.book.specs.Memory.{view, Passing, rulesIn}
 use Rattle.change.specs.Promises.{TakesLowest, TakesNone}
-use Rattle.batch.specs.Records.{Record, cellsOf, written}
-use Rattle.batch.specs.Commands.{Command, Add, Remove, Ask, Show, Room, Stops, Change, more, less, changedNumber, heldBefore, changed, Effect}
+use Rattle.commands.specs.Records.{written}
+use Rattle.commands.specs.Writing.{Writes}
+use Rattle.batch.specs.Effects.{Change, more, less, changedNumber, heldBefore, changed, Effect}
 use Rattle.batch.specs.Run.{Outcome, run}
-
--- What is known of a command that was read, with the cells behind its command cell.
-abbrev pub Read : List ℕ → Command → Type 0
-Read behind (Add number size) = (number < 4096) × (readTerm behind ≡ Whole size)
-Read behind (Remove number) = number < 4096
-Read behind (Ask kind size) = (2 ≤ kind) × (kind ≤ 5) × (readTerm behind ≡ Whole size)
-Read behind (Show number) = number < 4096
-Read behind Room = Unit {0}
-Read behind (Stops refusal) = refusal ≤ 5
-
--- A record is written from the front of the output, and n says how many cells; or there is no room for it, and n is 0.
-pub record Writes (r : Record) (out out′ : List ℕ) (n : ℕ) : Type 0 where
-  pub fits : length (r .cells) < length out → (n ≡ suc (length (r .cells))) × (out′ ≡ cellsOf r ++ drop n out)
-  pub short : length out ≤ length (r .cells) → (n ≡ 0) × (out′ ≡ out)
 
 -- One change of the book, from a memory to the next: that rule comes or goes and no other does, and the nodes that come into use are the free ones
 -- of lowest number, or none.

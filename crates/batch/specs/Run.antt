@@ -5,8 +5,10 @@ use Prim.Native.Nat.{ℕ, zero, suc, _+_, _-_}
 use lib.Dec.{eqb, ltb}
 use lib.ListN.{length}
 use Rattle.book.specs.Rules.{Rules}
-use Rattle.batch.specs.Records.{Record}
-use Rattle.batch.specs.Commands.{Command, commandIn, termSize, stopOf, Change, Effect, does}
+use Rattle.commands.specs.Records.{Record}
+use Rattle.commands.specs.declared.reader.Command.{Command}
+use Rattle.commands.specs.Commands.{commandIn, termSize, stopOf}
+use Rattle.batch.specs.Effects.{Change, Effect, does}
 
 -- What comes of a batch on a book that passes: the stop number, cells used, the records written, the rules afterwards, and the changes of the rules in turn.
 pub record Outcome : Type 0 where

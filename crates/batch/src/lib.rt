@@ -1,14 +1,15 @@
-// The batch: commands out of cells, records into cells, over a book in lent memory.
-pub mod reader;
+// The batch: commands in turn, over a book in lent memory.
 pub mod records;
 
 ghost use mathlib.Core.Path.{_≡_};
 ghost use Prim.Native.Nat.{_+_, _<_};
 ghost use lib.ListN.{length, drop};
 ghost use Rattle.book.specs.Memory.{Passing, rulesIn};
-ghost use Rattle.batch.specs.Commands.{termSize, stopOf, does};
-ghost use Rattle.batch.specs.Promises.{Read, Does, Ran, Runs};
-use reader::Command;
+ghost use Rattle.commands.specs.Commands.{termSize, stopOf, Read};
+ghost use Rattle.batch.specs.Effects.{does};
+ghost use Rattle.batch.specs.Promises.{Does, Ran, Runs};
+use commands::reader;
+use commands::reader::Command;
 
 // How a batch ends: the stop number, cells used, cells written.
 pub struct Ended {
@@ -72,7 +73,7 @@ fn do_command(
         }
         Command::Show(number) => records::show(book, number, out),
         Command::Room => records::room(book, out),
-        Command::Stops(refusal) => records::put_bare(refusal, out),
+        Command::Stops(refusal) => commands::records::put_bare(refusal, out),
     }
 }
 

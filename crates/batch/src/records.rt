@@ -1,23 +1,24 @@
 // One command done, and its record written from the front of the output. Each function answers how many cells it wrote, and 0
 // where the record has no room; then nothing has changed.
 ghost use mathlib.Core.Path.{_≡_};
-ghost use mathlib.Core.List.{_++_};
 ghost use Prim.Native.Nat.{_+_, _<_, _≤_};
-ghost use lib.ListN.{length, take, drop};
+ghost use lib.ListN.{length};
 ghost use lib.Dec.{ltb};
 ghost use Rattle.bits.specs.Numbers.{NumberSet, has};
 ghost use Rattle.questions.specs.Asking.{numbers};
 ghost use Rattle.term.specs.Machine.{fillsQuestion, fillsRule};
-ghost use Rattle.book.specs.Rules.{addRefusal};
+ghost use Rattle.book.specs.Rules.{addRefusal, removeRefusal};
 ghost use Rattle.book.specs.Memory.{Passing, rulesIn};
-ghost use Rattle.book.specs.Rules.{removeRefusal};
 ghost use Rattle.book.specs.Promises.{IsTerm};
-ghost use Rattle.batch.specs.Records.{bare};
-ghost use Rattle.batch.specs.Commands.{adds, removes, asks, shows, counts, modeOf};
-ghost use Rattle.batch.specs.Promises.{Writes, Does};
+ghost use Rattle.batch.specs.Effects.{adds, removes, asks, shows, counts};
+ghost use Rattle.commands.specs.Commands.{modeOf};
+ghost use Rattle.commands.specs.Writing.{Writes};
+ghost use Rattle.batch.specs.Promises.{Does};
 use book::Added;
 use book::Book;
 use book::Removed;
+use commands::records::copy;
+use commands::records::put_bare;
 
 fn add_refusal(answer: Added) -> u64
     ensures { λ r. ⌜ r ≡ addRefusal answer ⌝ }
@@ -59,30 +60,6 @@ fn fills_rule(kind: u16) -> bool
         return true;
     }
     kind == 5
-}
-
-// A record of a refusal, or of 0, without further cells.
-pub fn put_bare(refusal: u64, out: &mut [u16]) -> usize
-    requires { ⌜ refusal < 16 ⌝ }
-    ensures { λ n. ⌜ Writes (bare refusal) (now (out .entry)) (now (out .exit)) n ⌝ }
-{
-    if out.len() == 0 {
-        return 0;
-    }
-    out[0] = (4096 * refusal) as u16;
-    1
-}
-
-// Copies the first `size` cells to the front of the output.
-fn copy(cells: &[u16], size: usize, out: &mut [u16])
-    requires { ⌜ (size ≤ length (now cells)) × (size ≤ length (now out)) ⌝ }
-    ensures { λ _. ⌜ now (out .exit) ≡ take size (now (cells .entry)) ++ drop size (now (out .entry)) ⌝ }
-{
-    let mut i: usize = 0;
-    while i < size {
-        out[i] = cells[i];
-        i += 1;
-    }
 }
 
 // Adds a rule. Whether the record has room is known before the book is touched.

@@ -14,10 +14,11 @@ use Rattle.book.specs.Rules.{Held, nothing, rule, Rules, withRule, nodesOf, jud
 use Rattle.book.specs.Memory.{Passing, rulesIn}
 use Rattle.book.specs.Facts.{Limited, limited}
 use Rattle.questions.specs.Demand2.{never-more}
-use Rattle.batch.specs.Records.{Record, bare, written}
-use Rattle.batch.specs.declared.reader.Command.{Command}
-use Rattle.batch.specs.declared.reader.Command.the-variants.{Add, Remove, Ask, Show, Room, Stops}
-use Rattle.batch.specs.Commands.{commandIn, stopOf, modeOf, Change, more, changeOf, Effect, shown, tells, does}
+use Rattle.commands.specs.Records.{Record, bare, written}
+use Rattle.commands.specs.declared.reader.Command.{Command}
+use Rattle.commands.specs.declared.reader.Command.the-variants.{Add, Remove, Ask, Show, Room, Stops}
+use Rattle.commands.specs.Commands.{commandIn, stopOf, modeOf}
+use Rattle.batch.specs.Effects.{Change, more, changeOf, Effect, shown, tells, does}
 use Rattle.batch.specs.Run.{Outcome, ends, endsWith, goesOn, run}
 use Rattle.batch.specs.Promises.{Came, Changes, Along, none, then, ran, turned-away, passing}
 use Rattle.batch.specs.Laws.{rest, run-none, run-10, run-stops, run-goes-on, along-on, unchanged}

@@ -6,8 +6,9 @@ use Prim.Native.Nat.{ℕ, _-_, _/_, _≤_, _<_}
 use lib.ListN.{length, getD, drop}
 use Rattle.book.specs.Rules.{nodesOf}
 use Rattle.book.specs.Memory.{Passing, rulesIn}
-use Rattle.batch.specs.Records.{Record, bare, written}
-use Rattle.batch.specs.Commands.{commandIn, termSize, Effect, does, tells}
+use Rattle.commands.specs.Records.{Record, bare, written}
+use Rattle.commands.specs.Commands.{commandIn, termSize}
+use Rattle.batch.specs.Effects.{Effect, does, tells}
 use Rattle.batch.specs.Promises.{Runs}
 use Rattle.claggyfoot.specs.Stages.{Stage, onward, Reaches, MemoryAt}
 use Rattle.claggyfoot.specs.NewNodes.{InUse, freeBelow}

@@ -19,8 +19,7 @@ use lib.Seq.{take-at}
 use Rattle.term.specs.Questions.{instances, generalisations}
 use Rattle.term.specs.declared.reading.Fault.the-variants.{TooLong, CutShort, FieldSet, AboveFifteen, AboveCount}
 use Rattle.names.specs.Name.{IsName}
-use Rattle.names.specs.Table.{Holds, Missing, put}
-use Rattle.names.specs.Table.{Passes as PassesTable}
+use Rattle.names.specs.Table.{Holds, Missing, put, Passes as PassesTable}
 use Rattle.book.specs.declared.Added.the-variants.{Taken}
 use Rattle.book.specs.Rules.{nothing, rule, Rules, withRule, ruleCount, nodesOf, judged}
 use Rattle.book.specs.Memory.{Passing, rulesIn}
@@ -28,13 +27,15 @@ use Rattle.book.specs.Promises.{IsTerm, Empties}
 use Rattle.book.specs.Facts.{empty-passes, empties-once}
 use Rattle.questions.specs.Asking.{Ordered, answers, Listed}
 use Rattle.questions.specs.Demand2.{WholeRules, lists, ordered, never-more, other-way-listed}
-use Rattle.batch.specs.Records.{Record, good, written}
-use Rattle.batch.specs.declared.reader.Command.{Command}
-use Rattle.batch.specs.declared.reader.Command.the-variants.{Ask}
-use Rattle.batch.specs.Commands.{commandIn, termSize, stopOf, modeOf, Effect, tells, does}
+use Rattle.commands.specs.Records.{Record, good, written}
+use Rattle.commands.specs.declared.reader.Command.{Command}
+use Rattle.commands.specs.declared.reader.Command.the-variants.{Ask}
+use Rattle.commands.specs.Commands.{commandIn, termSize, stopOf, modeOf, Read}
+use Rattle.batch.specs.Effects.{Effect, tells, does}
 use Rattle.batch.specs.Run.{Outcome, run}
-use Rattle.batch.specs.Promises.{Read, Came, Ran, Turned-away, Runs, ran, turned-away, passing}
-use Rattle.batch.specs.Laws.{whole-behind, read-of, unchanged}
+use Rattle.batch.specs.Promises.{Came, Ran, Turned-away, Runs, ran, turned-away, passing}
+use Rattle.commands.specs.Laws.{whole-behind, read-of}
+use Rattle.batch.specs.Laws.{unchanged}
 use Rattle.claggyfoot.specs.Stages.{Stage, onward, does-rules, MemoryAt}
 use Rattle.claggyfoot.specs.Calls.{Exactly, Call, Kept, CameTo, effectOf, sizeOf, Idle, StopsHere, Answered, Ended, GoneOn, RefusedOn, StoppedBy, NodesTaken}
 use Rattle.claggyfoot.specs.Refusals.{Wrong, TakesTerm, Faulty, Adds-term, Names-rule, Held-already, StopNumber, Ends, fault-3, fault-4, fault-5, two, six, eight, nine, not-held, goes-on-with, batch-ends}

@@ -17,13 +17,14 @@ use Rattle.term.specs.declared.reading.Reading.{Reading}
 use Rattle.term.specs.declared.reading.Reading.the-variants.{Whole, Refused}
 use Rattle.book.specs.declared.Added.{Added}
 use Rattle.book.specs.declared.Added.the-variants.{Taken, HeldAlready, BookFull, NoNodes}
-use Rattle.book.specs.Rules.{Held, nothing, rule, Rules, isHeld, withRule, ruleCount, nodesOf, addRefusal, pickAdded, judged}
-use Rattle.book.specs.Rules.{removal, removeRefusal}
-use Rattle.batch.specs.declared.reader.Command.{Command}
-use Rattle.batch.specs.declared.reader.Command.the-variants.{Add, Remove, Ask, Show, Room, Stops}
-use Rattle.batch.specs.Commands.{withTerm, commandOf, commandIn, termSize, stopOf, Effect, changeOf, changeAt, shown, does}
+use Rattle.book.specs.Rules.{Held, nothing, rule, Rules, isHeld, withRule, ruleCount, nodesOf, addRefusal, pickAdded, judged, removal, removeRefusal}
+use Rattle.commands.specs.declared.reader.Command.{Command}
+use Rattle.commands.specs.declared.reader.Command.the-variants.{Add, Remove, Ask, Show, Room, Stops}
+use Rattle.commands.specs.Commands.{withTerm, commandOf, commandIn, termSize, stopOf}
+use Rattle.batch.specs.Effects.{Effect, changeOf, changeAt, shown, does}
 use Rattle.batch.specs.Run.{Outcome, ends, goesOn, run}
-use Rattle.batch.specs.Laws.{is-add, is-remove, is-ask, is-show, is-none, is-room, number-0, number-not-0, low-fault, read-of, size-inside, run-none, run-10, run-stops, run-goes-on}
+use Rattle.commands.specs.Laws.{is-add, is-remove, is-ask, is-show, is-none, is-room, number-0, number-not-0, low-fault, read-of, size-inside}
+use Rattle.batch.specs.Laws.{run-none, run-10, run-stops, run-goes-on}
 
 -- ---- what a command cell says: refusals 2 to 5
 

@@ -11,10 +11,11 @@ use Rattle.book.specs.declared.Added.{Added}
 use Rattle.book.specs.declared.Added.the-variants.{Taken, HeldAlready, BookFull, NoNodes}
 use Rattle.book.specs.Rules.{Held, nothing, rule, Rules, pickHeld, withoutRule, judged, after}
 use Rattle.book.specs.Memory.{Passing, rulesIn}
-use Rattle.batch.specs.Records.{Record}
-use Rattle.batch.specs.declared.reader.Command.{Command}
-use Rattle.batch.specs.declared.reader.Command.the-variants.{Add, Remove, Ask, Show, Room, Stops}
-use Rattle.batch.specs.Commands.{commandIn, termSize, stopOf, Change, changed, changeOf, changeAt, Effect, does}
+use Rattle.commands.specs.Records.{Record}
+use Rattle.commands.specs.declared.reader.Command.{Command}
+use Rattle.commands.specs.declared.reader.Command.the-variants.{Add, Remove, Ask, Show, Room, Stops}
+use Rattle.commands.specs.Commands.{commandIn, termSize, stopOf}
+use Rattle.batch.specs.Effects.{Change, changed, changeOf, changeAt, Effect, does}
 use Rattle.batch.specs.Run.{Outcome, run}
 use Rattle.batch.specs.Promises.{Changes, Along, none, then}
 use Rattle.batch.specs.Laws.{rest, run-goes-on}

@@ -14,8 +14,9 @@ use Rattle.book.specs.Gathered.{not-rule}
 use Rattle.book.specs.Memory.{view, Passing, rulesIn}
 use Rattle.book.specs.Facts.{empty-passes, empty-rules, nodes-in-use}
 use Rattle.questions.specs.Asking.{answers}
-use Rattle.batch.specs.Records.{Record, bare, good, written}
-use Rattle.batch.specs.Commands.{more, less, commandOf, does}
+use Rattle.commands.specs.Records.{Record, bare, good, written}
+use Rattle.batch.specs.Effects.{more, less, does}
+use Rattle.commands.specs.Commands.{commandOf}
 use Rattle.batch.specs.Run.{run, runFrom}
 use Rattle.batch.specs.Promises.{Changes, Along, Came, Runs, passing}
 use Rattle.batch.specs.Laws.{unchanged}

@@ -4,7 +4,7 @@ use mathlib.Core.Bool.{Bool, true, false}
 use Prim.Native.Nat.{ℕ, zero, suc, _+_, _*_, _/_, _%_}
 use lib.Dec.{ltb}
 use lib.ListN.{length, take, drop}
-use Rattle.batch.specs.Records.{Record}
+use Rattle.commands.specs.Records.{Record}
 
 abbrev pub pick : {X : Type 0} → Bool → X → X → X
 pick true a b = a

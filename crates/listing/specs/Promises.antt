@@ -4,7 +4,7 @@ use mathlib.Core.List.{List}
 use Prim.Native.Nat.{ℕ, _≤_, _<_}
 use native.Mathlib.Omega.{arith}
 use lib.ListN.{length, getD}
-use Rattle.batch.specs.Records.{Record, written}
+use Rattle.commands.specs.Records.{Record, written}
 use Rattle.listing.specs.Listing.{listing, recordsIn}
 use Rattle.listing.specs.Placing.{Puts, Stands, stand, same-bytes}
 use Rattle.listing.specs.Reading.{sound, reads-written}

@@ -5,7 +5,7 @@ use Prim.Native.Nat.{ℕ, zero, suc, _+_, _*_, _/_, _%_, _≤_, _<_}
 use native.Mathlib.Omega.{arith}
 use lib.ListN.{length, take, drop, getD, length-append, length-drop}
 use lib.Seq.{take-append-seam, drop-append-seam, getD-append-add}
-use Rattle.batch.specs.Records.{Record, written}
+use Rattle.commands.specs.Records.{Record, written}
 use Rattle.listing.specs.Listing.{recordsBy, recordsIn}
 
 -- more fuel changes nothing

@@ -8,7 +8,7 @@ use native.Mathlib.Omega.{arith}
 use borrow.Author.Tests.{ltb-true, ltb-false}
 use lib.Dec.{ltb}
 use lib.ListN.{length, length-append}
-use Rattle.batch.specs.Records.{Record, written}
+use Rattle.commands.specs.Records.{Record, written}
 use Rattle.listing.specs.Listing.{decimal, hexCell, hexCells, space, newline, recordLine, recordLines, header, stopLine, listing, cellsIn}
 use Rattle.listing.specs.Digits.{one-digit, more-digits}
 use Rattle.listing.specs.Reading.{Sound, none, more}

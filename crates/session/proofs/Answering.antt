@@ -9,7 +9,7 @@ use Rattle.book.specs.Rules.{Rules, noRules}
 use Rattle.book.specs.Memory.{Passing, rulesIn}
 use Rattle.book.specs.Promises.{Empties}
 use Rattle.book.specs.Facts.{empty-passes, empty-rules}
-use Rattle.batch.specs.Records.{written}
+use Rattle.commands.specs.Records.{written}
 use Rattle.batch.specs.Run.{Outcome, run}
 use Rattle.batch.specs.Promises.{Runs, passing}
 use Rattle.listing.specs.Listing.{listing}

@@ -4,7 +4,7 @@ use Prim.Native.Nat.{ℕ, _%_}
 use lib.Dec.{ltb, eqb}
 use lib.ListN.{length}
 use Rattle.book.specs.Rules.{noRules}
-use Rattle.batch.specs.Records.{written}
+use Rattle.commands.specs.Records.{written}
 use Rattle.batch.specs.Run.{Outcome, run}
 use Rattle.listing.specs.Listing.{pick, listing, badInput, cellsIn}
 

@@ -5,8 +5,8 @@ use Prim.Native.Nat.{_-_, _≤_}
 use native.Mathlib.Omega.{arith}
 use lib.ListN.{drop}
 use Rattle.book.specs.Promises.{IsTerm}
-use Rattle.batch.specs.Commands.{Add, Remove, Ask}
-use Rattle.batch.specs.Promises.{Read}
+use Rattle.commands.specs.declared.reader.Command.the-variants.{Add, Remove, Ask}
+use Rattle.commands.specs.Commands.{Read}
 use Rattle.batch.proofs.Commanding.{Inside, inside, part-is}
 use Rattle.batch.proofs.Doing.{told, done, does-add, does-remove, does-ask, does-show, does-room, does-stop}
 use Rattle.batch.proofs.do_command.Statement.{statement}

@@ -5,8 +5,8 @@ use Prim.Native.Nat.{ℕ, _+_, _-_, _≤_}
 use native.Mathlib.Omega.{arith}
 use lib.ListN.{length, drop, length-replicate}
 use borrow.Rule.Slice.PartMut.{putMid}
-use Rattle.batch.specs.Promises.{Read}
-use Rattle.batch.proofs.Commanding.{read-at}
+use Rattle.commands.specs.Commands.{Read}
+use Rattle.commands.specs.Laws.{read-at}
 use Rattle.batch.proofs.Looping.{Running, begins, finished, full-long, ends-10, ends-with, fits-in, used-up, again}
 use Rattle.batch.proofs.run_commands.Statement.{statement}
 use Rattle.batch.proofs.run_commands.Tie as tie

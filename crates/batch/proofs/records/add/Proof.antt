@@ -3,9 +3,9 @@ use borrow.Author.Needs.{needs}
 use mathlib.Core.Path.{sym, subst}
 use Prim.Native.Nat.{ℕ, _<_}
 use native.Mathlib.Omega.{arith}
-use Rattle.batch.specs.Commands.{adds}
+use Rattle.batch.specs.Effects.{adds}
 use Rattle.book.specs.Memory.{rulesIn}
-use Rattle.batch.proofs.Writing.{no-room}
+use Rattle.commands.specs.Writing.{no-room}
 use Rattle.batch.proofs.Doing.{no-room-for, add-done, low-refusal}
 use Rattle.batch.proofs.records.add.Statement.{statement}
 use Rattle.batch.proofs.records.add.Tie as tie

@@ -13,8 +13,9 @@ use Rattle.bits.specs.Numbers.{NumberSet, has}
 use Rattle.questions.specs.Asking.{numbers, answers}
 use Rattle.questions.specs.Promises.{Asked}
 use Rattle.questions.specs.Listing.{asked}
-use Rattle.batch.specs.Commands.{modeOf, asks}
-use Rattle.batch.proofs.Writing.{no-room, cells-then}
+use Rattle.commands.specs.Commands.{modeOf}
+use Rattle.batch.specs.Effects.{asks}
+use Rattle.commands.specs.Writing.{no-room, cells-then}
 use Rattle.batch.proofs.Doing.{these, as-many, listed-are, never-many}
 use Rattle.batch.proofs.records.ask.Statement.{statement}
 use Rattle.batch.proofs.records.ask.Tie as tie

@@ -2,7 +2,7 @@
 use mathlib.Core.Path.{ap, sym}
 use Prim.Native.Nat.{ℕ}
 use Rattle.term.specs.Machine.{fillsQuestion}
-use Rattle.batch.specs.Commands.{modeOf}
+use Rattle.commands.specs.Commands.{modeOf}
 use Rattle.batch.proofs.Doing.{question-filled}
 use Rattle.batch.proofs.records.fills_question.Statement.{statement}
 use Rattle.batch.proofs.records.fills_question.Tie as tie

@@ -2,7 +2,7 @@
 use mathlib.Core.Path.{ap, sym}
 use Prim.Native.Nat.{ℕ}
 use Rattle.term.specs.Machine.{fillsRule}
-use Rattle.batch.specs.Commands.{modeOf}
+use Rattle.commands.specs.Commands.{modeOf}
 use Rattle.batch.proofs.Doing.{rule-filled}
 use Rattle.batch.proofs.records.fills_rule.Statement.{statement}
 use Rattle.batch.proofs.records.fills_rule.Tie as tie

@@ -6,8 +6,8 @@ use native.Mathlib.Omega.{arith}
 use lib.ListN.{length-set}
 use Rattle.book.specs.Memory.{rulesIn}
 use Rattle.book.specs.Facts.{limited}
-use Rattle.batch.specs.Commands.{counts}
-use Rattle.batch.proofs.Writing.{no-room, two-written}
+use Rattle.batch.specs.Effects.{counts}
+use Rattle.commands.specs.Writing.{no-room, two-written}
 use Rattle.batch.proofs.records.room.Statement.{statement}
 use Rattle.batch.proofs.records.room.Tie as tie
 

@@ -7,8 +7,8 @@ use Prim.Native.Nat.{ℕ, _+_, _*_, _-_, _≤_, _<_}
 use native.Mathlib.Omega.{arith}
 use borrow.Rule.Slice.PartMut.{midOf}
 use lib.ListN.{length, set, take, drop, length-set, length-take}
-use Rattle.batch.specs.Records.{good}
-use Rattle.batch.proofs.Writing.{written-as, no-room, with-cells, behind-first, kept-long}
+use Rattle.commands.specs.Records.{good}
+use Rattle.commands.specs.Writing.{written-as, no-room, with-cells, behind-first, kept-long}
 use Rattle.batch.proofs.Doing.{IsShown, not-shown, is-shown}
 use Rattle.batch.proofs.records.show.Statement.{statement}
 use Rattle.batch.proofs.records.show.Tie as tie

@@ -1,0 +1,3 @@
+// Commands out of cells, and records into cells.
+pub mod reader;
+pub mod records;

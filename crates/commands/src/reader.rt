@@ -1,0 +1,145 @@
+// Commands out of cells that anybody may have written. The cells and the place in them travel together as one reader.
+ghost use mathlib.Core.Path.{_≡_};
+ghost use Prim.Native.Nat.{_+_, _<_};
+ghost use lib.ListN.{drop};
+ghost use Rattle.term.specs.Reading.{readTerm};
+ghost use Rattle.commands.specs.Reader.{cellIn, past};
+ghost use Rattle.commands.specs.Commands.{Add, Ask, withTerm, withNumber0, commandBy, commandIn};
+use term::reading;
+use term::reading::Reading;
+
+// A command: what to do, under which number, and how many cells its term has; or the refusal with which it stops the batch.
+pub enum Command {
+    Add(u16, usize),
+    Remove(u16),
+    // One of the four questions, by its kind.
+    Ask(u16, usize),
+    Show(u16),
+    Room,
+    Stops(u64),
+}
+
+// A cell, or the end of the cells.
+pub enum Next {
+    Cell(u16),
+    End,
+}
+
+// What stands at a place of the cells.
+fn cell_at(cells: &[u16], at: usize) -> Next
+    ensures { λ r. ⌜ r ≡ cellIn (drop at (now (cells .entry))) ⌝ }
+{
+    if at < cells.len() {
+        return Next::Cell(cells[at]);
+    }
+    Next::End
+}
+
+// The place behind the cell at a place; the same place where there is none, so nothing has to be asked of it.
+fn place_past(cells: &[u16], at: usize) -> usize
+    ensures { λ r. ⌜ r ≡ past (now (cells .entry)) at ⌝ }
+{
+    if at < cells.len() {
+        return at + 1;
+    }
+    at
+}
+
+// The term of an add.
+fn add_at(cells: &[u16], at: usize, number: u16) -> Command
+    ensures { λ r. ⌜ r ≡ withTerm (Add number) (readTerm (drop at (now (cells .entry)))) ⌝ }
+{
+    match reading::read(cells, at) {
+        Reading::Whole(size) => Command::Add(number, size),
+        Reading::Refused(fault, _) => Command::Stops(reading::refusal(fault)),
+    }
+}
+
+// The term of a question; its number has to be 0.
+fn ask_at(cells: &[u16], at: usize, kind: u16, number: u16) -> Command
+    ensures { λ r. ⌜ r ≡ withNumber0 number (withTerm (Ask kind) (readTerm (drop at (now (cells .entry))))) ⌝ }
+{
+    if number != 0 {
+        return Command::Stops(2);
+    }
+    match reading::read(cells, at) {
+        Reading::Whole(size) => Command::Ask(kind, size),
+        Reading::Refused(fault, _) => Command::Stops(reading::refusal(fault)),
+    }
+}
+
+// The command that a cell begins, with the cells behind it from a place on. Where there is no cell there is nothing to do.
+fn command_of(next: Next, cells: &[u16], at: usize) -> Command
+    ensures { λ r. ⌜ r ≡ commandBy next (drop at (now (cells .entry))) ⌝ }
+{
+    let Next::Cell(c) = next else {
+        return Command::Stops(0);
+    };
+    let kind = c / 4096;
+    let number = c % 4096;
+    if kind == 0 {
+        return add_at(cells, at, number);
+    }
+    if kind == 1 {
+        return Command::Remove(number);
+    }
+    if kind <= 5 {
+        return ask_at(cells, at, kind, number);
+    }
+    if kind == 6 {
+        return Command::Show(number);
+    }
+    if kind != 7 {
+        return Command::Stops(2);
+    }
+    if number != 0 {
+        return Command::Stops(2);
+    }
+    Command::Room
+}
+
+// Cells and a place in them.
+pub struct Reader<'a> {
+    pub cells: &'a [u16],
+    pub at: usize,
+}
+
+// A reader at a place.
+pub fn reader_at<'a>(cells: &'a [u16], at: usize) -> Reader<'a>
+    ensures { λ r. ⌜ (r .cells ≡ cells .entry) × (r .at ≡ at) ⌝ }
+{
+    Reader { cells, at }
+}
+
+// The next cell; the reader stays where it is.
+pub fn next_cell<'a>(r: Reader<'a>) -> Next
+    ensures { λ c. ⌜ c ≡ cellIn (drop (r .entry .at) (now (r .entry .cells))) ⌝ }
+{
+    cell_at(r.cells, r.at)
+}
+
+// The reader moved on past its next cell; at the end it stays.
+pub fn moved_on<'a>(r: Reader<'a>) -> Reader<'a>
+    ensures { λ q. ⌜ (q .cells ≡ r .entry .cells) × (q .at ≡ past (now (r .entry .cells)) (r .entry .at)) ⌝ }
+{
+    Reader {
+        cells: r.cells,
+        at: place_past(r.cells, r.at),
+    }
+}
+
+// The next command.
+pub fn next_command<'a>(r: Reader<'a>) -> Command
+    ensures { λ c. ⌜ c ≡ commandIn (drop (r .entry .at) (now (r .entry .cells))) ⌝ }
+{
+    let next = next_cell(r);
+    let behind = moved_on(r);
+    command_of(next, behind.cells, behind.at)
+}
+
+// The same for those who have the cells and the place apart.
+pub fn read_command(cells: &[u16], at: usize) -> Command
+    ensures { λ c. ⌜ c ≡ commandIn (drop at (now (cells .entry))) ⌝ }
+{
+    next_command(reader_at(cells, at))
+}
