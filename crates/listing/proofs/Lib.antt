@@ -1,4 +1,3 @@
 -- Laws that join the code's steps to the definitions of specs/.
-pub mod Putting
 pub mod Taking
 pub mod Pairing

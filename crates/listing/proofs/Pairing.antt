@@ -9,7 +9,7 @@ use lib.Dec.{leb}
 use lib.ListN.{length, drop, getD, set, length-drop}
 use lib.Seq.{sets, set-out}
 use Rattle.listing.specs.Listing.{cellsIn}
-use Rattle.listing.proofs.Putting.{one-more}
+use Rattle.writing.specs.Putting.{one-more}
 
 -- The cells from i on are still to be made, and lead to the end.
 pub record Unmade (bytes cells : List ℕ) (i : ℕ) (end : List ℕ) : Type 0 where

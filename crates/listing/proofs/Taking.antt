@@ -10,7 +10,7 @@ use lib.ListN.{length, take, drop, getD, length-drop, drop-of-length-le}
 use lib.Seq.{take-all, take-length, drop-length, drop-drop}
 use Rattle.listing.specs.Listing.{recordsIn}
 use Rattle.listing.specs.Reading.{first-record}
-use Rattle.listing.proofs.Putting.{one-more}
+use Rattle.writing.specs.Putting.{one-more}
 
 -- taking and passing more cells than there are
 at-most : (n : ℕ) (l : List ℕ) → (take n l ≡ take (min n (length l)) l) × (drop n l ≡ drop (min n (length l)) l)

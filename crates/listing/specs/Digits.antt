@@ -6,7 +6,8 @@ use Prim.Native.Nat.{ℕ, zero, suc, _+_, _/_, _%_, _≤_, _<_}
 use native.Mathlib.Omega.{arith}
 use borrow.Author.Tests.{lt-ltb, le-ltb, ltb-false}
 use lib.Dec.{ltb}
-use Rattle.listing.specs.Listing.{pick, digits, decimal}
+use Rattle.deciding.specs.Deciding.{pick}
+use Rattle.listing.specs.Listing.{digits, decimal}
 
 -- more fuel changes nothing
 same-digits : (f g n : ℕ) → n < f → n < g → digits f n ≡ digits g n

@@ -1,14 +1,10 @@
 -- What the session program prints, and how it reads cells: 01, 'The session program'.
 use mathlib.Core.List.{List, [], _∷_, _++_}
-use mathlib.Core.Bool.{Bool, true, false}
 use Prim.Native.Nat.{ℕ, zero, suc, _+_, _*_, _/_, _%_}
+use Rattle.deciding.specs.Deciding.{pick}
 use lib.Dec.{ltb}
 use lib.ListN.{length, take, drop}
 use Rattle.commands.specs.Records.{Record}
-
-abbrev pub pick : {X : Type 0} → Bool → X → X → X
-pick true a b = a
-pick false a b = b
 
 -- The decimal digits of n, at most as many as the fuel: those of n / 10, where there are any, and then the last.
 unfoldable pub digits : ℕ → ℕ → List ℕ

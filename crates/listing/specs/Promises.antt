@@ -6,7 +6,7 @@ use native.Mathlib.Omega.{arith}
 use lib.ListN.{length, getD}
 use Rattle.commands.specs.Records.{Record, written}
 use Rattle.listing.specs.Listing.{listing, recordsIn}
-use Rattle.listing.specs.Placing.{Puts, Stands, stand, same-bytes}
+use Rattle.writing.specs.Writing.{Puts, Front, stand, same-bytes}
 use Rattle.listing.specs.Reading.{sound, reads-written}
 use Rattle.listing.specs.Sizes.{listing-size}
 
@@ -14,14 +14,14 @@ use Rattle.listing.specs.Sizes.{listing-size}
 -- written one after another, at most 4,096 cells, these are the records; and 65,536 bytes are room enough.
 pub record Lists (cells text after : List ℕ) (stop used end : ℕ) : Type 0 where
   pub put : Puts (listing (recordsIn cells) stop used (length cells)) text 0 after end
-  pub stands : (rs : List Record) → cells ≡ written rs → length cells ≤ 4096 → 65536 ≤ length text → Stands (listing rs stop used (length (written rs))) text after end
+  pub stands : (rs : List Record) → cells ≡ written rs → length cells ≤ 4096 → 65536 ≤ length text → Front (listing rs stop used (length (written rs))) text after end
 
 -- The first half is enough, for cells of 16 bits and numbers of 64.
 pub lists : {cells text after : List ℕ} {stop used end : ℕ} → ((i : ℕ) → getD cells i 0 < 65536) → stop < 18446744073709551616 → used < 18446744073709551616
     → Puts (listing (recordsIn cells) stop used (length cells)) text 0 after end → Lists cells text after stop used end
 lists {cells} {text} {after} {stop} {used} {end} small h i p = record { put = p; stands = λ rs e few room. whole rs e few room }
   where
-    whole : (rs : List Record) → cells ≡ written rs → length cells ≤ 4096 → 65536 ≤ length text → Stands (listing rs stop used (length (written rs))) text after end
+    whole : (rs : List Record) → cells ≡ written rs → length cells ≤ 4096 → 65536 ≤ length text → Front (listing rs stop used (length (written rs))) text after end
     whole rs e few room =
         let n = ap length e in
         let s = sound rs (omega arith) (subst (λ (l : List ℕ). (k : ℕ) → getD l k 0 < 65536) e small) in

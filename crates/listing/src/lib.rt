@@ -3,34 +3,14 @@
 // Each call that puts something is given the text and the place where it goes, and answers the place behind it. Bytes for
 // which the text has no room are left out, so no call asks for room.
 ghost use mathlib.Core.Path.{_≡_};
-ghost use mathlib.Core.List.{_∷_, [], _++_};
+ghost use mathlib.Core.List.{_++_};
 ghost use Prim.Native.Nat.{_<_, min};
 ghost use lib.Seq.{sets};
 ghost use Rattle.listing.specs.Listing.{decimal, hexDigit, space, hexCell, hexCells, recordLine, recordLines, stopLine, cellsIn, recordsIn};
-ghost use Rattle.listing.specs.Placing.{Puts};
+ghost use Rattle.writing.specs.Writing.{Puts};
 ghost use Rattle.listing.specs.Promises.{Lists};
-
-fn put_byte(text: &mut [u8], at: usize, byte: u8) -> usize
-    ensures { λ r. ⌜ Puts (byte ∷ []) (now (text .entry)) at (now (text .exit)) r ⌝ }
-{
-    if at < text.len() {
-        text[at] = byte;
-        return at + 1;
-    }
-    at
-}
-
-pub fn put_bytes(text: &mut [u8], at: usize, bytes: &[u8]) -> usize
-    ensures { λ r. ⌜ Puts (now (bytes .entry)) (now (text .entry)) at (now (text .exit)) r ⌝ }
-{
-    let mut end = at;
-    let mut i: usize = 0;
-    while i < bytes.len() {
-        end = put_byte(text, end, bytes[i]);
-        i += 1;
-    }
-    end
-}
+use writing::put_byte;
+use writing::put_bytes;
 
 // A number in decimal: all its digits but the last are those of a tenth of it.
 fn put_decimal(text: &mut [u8], at: usize, n: usize) -> usize

@@ -7,7 +7,8 @@ use native.Mathlib.Omega.{arith}
 use native.Mathlib.Numerals.{add-one}
 use lib.ListN.{length, getD, take, drop, replicate, length-drop}
 use lib.Seq.{take-all, drop-at}
-use Rattle.names.specs.Name.{IsName, Decides}
+use Rattle.deciding.specs.Deciding.{Decides}
+use Rattle.names.specs.Name.{IsName}
 use Rattle.names.specs.Table.{slotOf}
 use Rattle.names.specs.Leaves.{AllZero, Used}
 use Rattle.names.specs.Slots.{nameIn, name-in, slot-is, zero-at}

@@ -4,7 +4,8 @@ use mathlib.Core.List.{List, []}
 use Prim.Native.Nat.{ℕ, _+_, _*_, _≤_, _<_}
 use lib.ListN.{length, getD, take, drop}
 use lib.Dec.{ltb}
-use Rattle.names.specs.Name.{pick, isName}
+use Rattle.deciding.specs.Deciding.{pick}
+use Rattle.names.specs.Name.{isName}
 use Rattle.names.specs.Table.{Holds, Passes, slotIn, put}
 pub use Rattle.names.specs.declared.Check.{Check}
 pub use Rattle.names.specs.declared.Check.the-variants.{Fails, Good}

@@ -7,7 +7,8 @@ use native.Mathlib.Omega.{arith}
 use borrow.Author.Tests.{lt-ltb, le-ltb, ltb-true, ltb-false, leb-true, leb-false, eq-eqb, eqb-true, eqb-false}
 use lib.Dec.{eqb, leb, ltb}
 use lib.ListN.{length, getD}
-use Rattle.names.specs.Name.{IsName, Decides, pick, printed, isName}
+use Rattle.deciding.specs.Deciding.{Decides, pick}
+use Rattle.names.specs.Name.{IsName, printed, isName}
 use Rattle.names.specs.Table.{Apart, Missing, same, slotIn, Holds, Passes}
 use Rattle.names.specs.Calls.{Entry, Held, New, NoTable, NoName, NoSlot, entryIn, tableAfter, Enters, entered, no-table}
 

@@ -4,6 +4,7 @@ use mathlib.Core.List.{List, [], _∷_}
 use mathlib.Core.Bool.{Bool, true, false}
 use Prim.Native.Nat.{ℕ, _-_, _≤_, _<_}
 use lib.Dec.{eqb, leb, ltb}
+use Rattle.deciding.specs.Deciding.{pick}
 use lib.ListN.{length, getD}
 
 -- 11 doesn't refuse these bytes: 1 to 31 of them, each from 32 to 126, the first and the last no space.
@@ -14,16 +15,7 @@ pub record IsName (name : List ℕ) : Type 0 where
   pub begins : getD name 0 0 ≡ 32 → ⊥
   pub ends : getD name (length name - 1) 0 ≡ 32 → ⊥
 
--- A bool that says whether something holds.
-pub record Decides (P : Type 0) (b : Bool) : Type 0 where
-  pub yes : b ≡ true → P
-  pub no : b ≡ false → P → ⊥
-
 -- ---- the same, computed
-
-abbrev pub pick : {X : Type 0} → Bool → X → X → X
-pick true a b = a
-pick false a b = b
 
 unfoldable pub printed : List ℕ → Bool
 printed [] = true

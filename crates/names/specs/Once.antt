@@ -1,29 +1,15 @@
 -- Each call's promise allows one outcome. It all rests on one law: a table holds one list of names.
 use mathlib.Core.Path.{_≡_, refl, sym, ap, ap₂, _∙_}
-use mathlib.Core.Bool.{Bool, true, false}
 use mathlib.Core.List.{List, [], _∷_, _++_, append-assoc}
 use Prim.Native.Nat.{ℕ, _+_, _*_}
 use native.Mathlib.Omega.{arith}
 use lib.ListN.{length, getD, take, drop, replicate, length-replicate}
 use lib.Seq.{take-at, drop-at}
-use Rattle.names.specs.Name.{IsName, Decides}
+use Rattle.names.specs.Name.{IsName}
 use Rattle.names.specs.Table.{Named, slotOf, slotsOf, Holds, Passes}
 use Rattle.names.specs.Cases.{Given, leaves, enters-so}
 use Rattle.names.specs.Calls.{entryIn, Enters, entered, no-table, tableAfter, Entry, Stands, bad-table, no-number, at, Place, NameIs, NameRefused, placeRefusal, placeStart, placeSize, Check, Fails, Good, Checks}
 use Rattle.names.specs.Slots.{named-rest, slot-length, slot-once, zero-at}
-
--- A bool decides one way.
-pub decides-once : {P : Type 0} (a b : Bool) → Decides P a → Decides P b → a ≡ b
-decides-once true true d e = refl
-decides-once true false d e = absurd (e .no refl (d .yes refl))
-decides-once false true d e = absurd (d .no refl (e .yes refl))
-decides-once false false d e = refl
-
-pub decided : {P : Type 0} → P → Decides P true
-decided p = record { yes = λ e. p; no = λ e. let z : _≡_ {A = ℕ} 0 1 = cc in absurd (omega arith) }
-
-pub denied : {P : Type 0} → (P → ⊥) → Decides P false
-denied f = record { yes = λ e. let z : _≡_ {A = ℕ} 0 1 = cc in absurd (omega arith); no = λ e. f }
 
 -- A used slot's first byte is its name's length, which is not 0.
 starts : (name rest : List ℕ) → getD (slotOf name ++ rest) 0 0 ≡ length name

@@ -5,7 +5,8 @@ use Prim.Native.Nat.{ℕ, suc, _+_, _-_, _*_, _≤_, _<_}
 use lib.ListN.{length, getD, take, drop, replicate}
 use mathlib.Core.Bool.{Bool, true, false}
 use lib.Dec.{eqb}
-use Rattle.names.specs.Name.{IsName, pick}
+use Rattle.deciding.specs.Deciding.{pick}
+use Rattle.names.specs.Name.{IsName}
 
 -- A used slot: the length, the name, zeros to the 32nd byte.
 unfoldable pub slotOf : List ℕ → List ℕ

@@ -1,5 +1,6 @@
 // What a name is. The check and every call ask here.
-ghost use Rattle.names.specs.Name.{Decides, IsName};
+ghost use Rattle.deciding.specs.Deciding.{Decides};
+ghost use Rattle.names.specs.Name.{IsName};
 use crate::SLOT;
 
 // The byte that no name begins or ends with.

@@ -4,7 +4,7 @@ ghost use mathlib.Core.Path.{_≡_};
 ghost use Prim.Native.Nat.{_+_, _*_, _≤_, _<_};
 ghost use lib.ListN.{length, set};
 ghost use lib.Seq.{paste};
-ghost use Rattle.names.specs.Name.{Decides};
+ghost use Rattle.deciding.specs.Deciding.{Decides};
 ghost use Rattle.names.specs.Leaves.{AllZero, Used, Finds, hashOf};
 use crate::SLOT;
 use crate::name::is_name;

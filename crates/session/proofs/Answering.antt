@@ -13,7 +13,7 @@ use Rattle.commands.specs.Records.{written}
 use Rattle.batch.specs.Run.{Outcome, run}
 use Rattle.batch.specs.Promises.{Runs, passing}
 use Rattle.listing.specs.Listing.{listing}
-use Rattle.listing.specs.Placing.{Stands}
+use Rattle.writing.specs.Writing.{Front}
 use Rattle.listing.specs.Promises.{Lists}
 use Rattle.session.specs.Session.{answer}
 
@@ -41,11 +41,11 @@ came {book} {after} {cells} {output} {r} {stop} {used} {n} e runs =
 
 -- Its listing is the answer.
 pub answered : {cells output text after : List ℕ} {stop used n end : ℕ} → Came cells output stop used n → length output ≡ 4096 → 65536 ≤ length text
-    → Lists (take n output) text after stop used end → Stands (answer cells) text after end
+    → Lists (take n output) text after stop used end → Front (answer cells) text after end
 unfolding answer
 answered {cells} {output} {text} {after} {stop} {used} {n} {end} c l room p =
     let o = run noRules cells 4096 in
-    let s : Stands (listing (o .records) stop used (length (written (o .records)))) text after end =
+    let s : Front (listing (o .records) stop used (length (written (o .records)))) text after end =
     p .stands (o .records) (c .records-are) (omega (arith, length-take n output)) room in
-    subst (λ (k : ℕ). Stands (listing (o .records) k (o .used) (length (written (o .records)))) text after end) (c .stop-is)
-    (subst (λ (k : ℕ). Stands (listing (o .records) stop k (length (written (o .records)))) text after end) (c .used-is) s)
+    subst (λ (k : ℕ). Front (listing (o .records) k (o .used) (length (written (o .records)))) text after end) (c .stop-is)
+    (subst (λ (k : ℕ). Front (listing (o .records) stop k (length (written (o .records)))) text after end) (c .used-is) s)

@@ -8,9 +8,10 @@ use lib.Dec.{eqb}
 use lib.ListN.{length, take}
 use lib.Seq.{sets, sets-eq, take-at}
 use native.Mathlib.Omega.{arith}
-use Rattle.listing.specs.Listing.{pick, badInput, cellsIn}
+use Rattle.deciding.specs.Deciding.{pick}
+use Rattle.listing.specs.Listing.{badInput, cellsIn}
 use Rattle.listing.specs.Sizes.{cells-in-size}
-use Rattle.listing.specs.Placing.{Stands}
+use Rattle.writing.specs.Writing.{Front}
 use Rattle.session.specs.Session.{answer, session}
 
 module _ (input : List ℕ) where
@@ -34,5 +35,5 @@ read input lent cells h l e =
     let n = cells-in-size input in
     ap (take (length input / 2)) (e ∙ sets-eq (cellsIn input) lent 0 (omega arith)) ∙ take-at (cellsIn input) _ (length input / 2) n
 
-pub stands-as : {a b text after : List ℕ} {end : ℕ} → a ≡ b → Stands a text after end → Stands b text after end
-stands-as {text = text} {after = after} {end = end} e s = subst (λ (l : List ℕ). Stands l text after end) e s
+pub stands-as : {a b text after : List ℕ} {end : ℕ} → a ≡ b → Front a text after end → Front b text after end
+stands-as {text = text} {after = after} {end = end} e s = subst (λ (l : List ℕ). Front l text after end) e s

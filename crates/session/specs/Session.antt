@@ -6,7 +6,8 @@ use lib.ListN.{length}
 use Rattle.book.specs.Rules.{noRules}
 use Rattle.commands.specs.Records.{written}
 use Rattle.batch.specs.Run.{Outcome, run}
-use Rattle.listing.specs.Listing.{pick, listing, badInput, cellsIn}
+use Rattle.deciding.specs.Deciding.{pick}
+use Rattle.listing.specs.Listing.{listing, badInput, cellsIn}
 
 abbrev pub listed : Outcome → List ℕ
 listed o = listing (o .records) (o .stop) (o .used) (length (written (o .records)))

@@ -1,7 +1,7 @@
 // Reads commands as cells from standard input, runs one batch on an empty book, and writes a listing of its records.
 ghost use Prim.Native.Nat.{_≤_};
 ghost use lib.ListN.{length};
-ghost use Rattle.listing.specs.Placing.{Stands};
+ghost use Rattle.writing.specs.Writing.{Front};
 ghost use Rattle.session.specs.Session.{answer as answerTo, session};
 use book::Book;
 use libc::STDIN_FILENO;
@@ -10,7 +10,7 @@ use libc::STDOUT_FILENO;
 // The listing of a batch on an empty book.
 fn answer(cells: &[u16], text: &mut [u8]) -> usize
     requires { ⌜ 65536 ≤ length (now text) ⌝ }
-    ensures { λ r. ⌜ Stands (answerTo (now (cells .entry))) (now (text .entry)) (now (text .exit)) r ⌝ }
+    ensures { λ r. ⌜ Front (answerTo (now (cells .entry))) (now (text .entry)) (now (text .exit)) r ⌝ }
 {
     let mut memory = [0u64; Book::WORDS];
     Book::empty(&mut memory);
@@ -23,13 +23,13 @@ fn answer(cells: &[u16], text: &mut [u8]) -> usize
 // What is to be printed for the whole input.
 fn respond(input: &[u8], text: &mut [u8]) -> usize
     requires { ⌜ 65536 ≤ length (now text) ⌝ }
-    ensures { λ r. ⌜ Stands (session (now (input .entry))) (now (text .entry)) (now (text .exit)) r ⌝ }
+    ensures { λ r. ⌜ Front (session (now (input .entry))) (now (text .entry)) (now (text .exit)) r ⌝ }
 {
     if 8192 < input.len() {
-        return listing::put_bytes(text, 0, b"bad input\n");
+        return writing::put_bytes(text, 0, b"bad input\n");
     }
     if input.len() % 2 != 0 {
-        return listing::put_bytes(text, 0, b"bad input\n");
+        return writing::put_bytes(text, 0, b"bad input\n");
     }
     let mut cells = [0u16; 4096];
     listing::read_cells(input, &mut cells);

@@ -5,12 +5,12 @@ use native.Mathlib.Omega.{arith}
 use borrow.Author.Needs.{needs}
 use borrow.Fn.Kinds.{In}
 use borrow.Fn.PlainCycle.{Measures, is, falls, and}
-use Rattle.listing.specs.Placing.{both, same-bytes}
+use Rattle.writing.specs.Writing.{both, same-bytes}
 use Rattle.listing.specs.Digits.{one-digit, more-digits}
 use Rattle.listing.proofs.put_decimal.Reads as put-decimal
 use Rattle.listing.proofs.put_decimal.Kinds as put-decimal-kinds
 use Rattle.listing.proofs.+put_decimal.Lts-put_decimal as put-decimal-lts
-use Rattle.listing.proofs.put_byte.Reads as put-byte-reads
+use Rattle.writing.proofs.put_byte.Reads as put-byte-reads
 use Rattle.listing.proofs.+put_decimal.{statement}
 use Rattle.listing.proofs.+put_decimal.Tie.{close}
 

@@ -1,6 +1,6 @@
 -- A space and the four digits, in one go.
 use borrow.Author.Needs.{needs}
-use Rattle.listing.specs.Placing.{same-bytes}
+use Rattle.writing.specs.Writing.{same-bytes}
 use Rattle.listing.proofs.put_cell.Statement.{statement}
 use Rattle.listing.proofs.put_cell.Tie as tie
 

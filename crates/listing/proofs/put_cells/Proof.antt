@@ -5,13 +5,13 @@ use native.Mathlib.Omega.{arith}
 use borrow.Author.Needs.{needs}
 use lib.ListN.{length, drop, drop-of-length-le}
 use Rattle.listing.specs.Listing.{hexCells}
-use Rattle.listing.specs.Placing.{spot, puts}
-use Rattle.listing.proofs.Putting.{Rest, all-left, some-put, none-left, one-more}
+use Rattle.writing.specs.Writing.{page, puts}
+use Rattle.writing.specs.Putting.{Rest, all-left, some-put, none-left, one-more}
 use Rattle.listing.proofs.put_cells.Statement.{statement}
 use Rattle.listing.proofs.put_cells.Tie as tie
 
 abbrev Inv-loop : tie.InvT-loop
-Inv-loop text₀ at cells end₀ i₀ text end i = (length text ≡ length text₀) × (i ≤ length cells) × Rest (hexCells (drop i cells)) text end (puts (hexCells cells) (spot text₀ at))
+Inv-loop text₀ at cells end₀ i₀ text end i = (length text ≡ length text₀) × (i ≤ length cells) × Rest (hexCells (drop i cells)) text end (puts (hexCells cells) (page text₀ at))
 
 abbrev μ-loop : tie.MeasureT-loop
 μ-loop text₀ at cells end₀ i₀ text end i = length cells - i

@@ -2,7 +2,7 @@
 use native.Mathlib.Omega.{arith}
 use borrow.Author.Needs.{needs}
 use Rattle.listing.specs.Listing.{listing}
-use Rattle.listing.specs.Placing.{both}
+use Rattle.writing.specs.Writing.{both}
 use Rattle.listing.specs.Promises.{lists}
 use Rattle.listing.proofs.put_listing.Statement.{statement}
 use Rattle.listing.proofs.put_listing.Tie as tie

@@ -6,8 +6,8 @@ use native.Mathlib.Omega.{arith}
 use borrow.Author.Needs.{needs}
 use lib.ListN.{length, drop, drop-of-length-le}
 use Rattle.listing.specs.Listing.{recordLines, recordsBy, recordsIn}
-use Rattle.listing.specs.Placing.{spot, puts}
-use Rattle.listing.proofs.Putting.{Rest, all-left, some-put, none-left}
+use Rattle.writing.specs.Writing.{page, puts}
+use Rattle.writing.specs.Putting.{Rest, all-left, some-put, none-left}
 use Rattle.listing.proofs.Taking.{record-at}
 use Rattle.listing.proofs.put_records.Statement.{statement}
 use Rattle.listing.proofs.put_records.Tie as tie
@@ -15,7 +15,7 @@ use Rattle.listing.proofs.put_records.Tie as tie
 abbrev Inv-loop : tie.InvT-loop
 Inv-loop text₀ at records end₀ position₀ place₀ text end position place =
     (length text ≡ length text₀) × (place ≤ length records) × (position ≤ place + 1)
-    × Rest (recordLines position (recordsIn (drop place records))) text end (puts (recordLines 1 (recordsIn records)) (spot text₀ at))
+    × Rest (recordLines position (recordsIn (drop place records))) text end (puts (recordLines 1 (recordsIn records)) (page text₀ at))
 
 abbrev μ-loop : tie.MeasureT-loop
 μ-loop text₀ at records end₀ position₀ place₀ text end position place = length records - place

@@ -1,6 +1,6 @@
 -- The parts of the line, one after another.
 use borrow.Author.Needs.{needs}
-use Rattle.listing.specs.Placing.{both}
+use Rattle.writing.specs.Writing.{both}
 use Rattle.listing.proofs.put_stop.Statement.{statement}
 use Rattle.listing.proofs.put_stop.Tie as tie
 

@@ -4,7 +4,7 @@ use Prim.Native.Nat.{ℕ}
 use native.Mathlib.Omega.{arith}
 use borrow.Author.Needs.{needs}
 use lib.ListN.{replicate, length-take, length-replicate}
-use Rattle.listing.specs.Placing.{stand}
+use Rattle.writing.specs.Writing.{stand}
 use Rattle.session.specs.Session.{answer}
 use Rattle.session.proofs.Responding.{too-long, odd, good, read, stands-as}
 use Rattle.session.proofs.respond.Statement.{statement}

@@ -4,7 +4,7 @@ use native.Mathlib.Omega.{arith}
 use borrow.Author.Needs.{needs}
 use borrow.Author.Count.{below-more}
 use lib.ListN.{getD}
-use Rattle.names.specs.Once.{decided, denied}
+use Rattle.deciding.specs.Deciding.{decided, denied}
 use Rattle.names.proofs.name.is_name.Statement.{statement}
 use Rattle.names.proofs.name.is_name.Tie as tie
 

@@ -6,7 +6,7 @@ use borrow.Author.Needs.{needs}
 use borrow.Author.Count.{below-more}
 use lib.ListN.{length, getD}
 use denote.Ref.{now}
-use Rattle.names.specs.Once.{decided, denied}
+use Rattle.deciding.specs.Deciding.{decided, denied}
 use Rattle.names.specs.Slots.{zero-past}
 use Rattle.names.proofs.slot.all_zero.Statement.{statement}
 use Rattle.names.proofs.slot.all_zero.Tie as tie

@@ -1,7 +1,7 @@
 -- A used slot has a length below 32, a name after it and zeros after that; and these make it one.
 use borrow.Author.Needs.{needs}
 use denote.Ref.{now}
-use Rattle.names.specs.Once.{denied}
+use Rattle.deciding.specs.Deciding.{denied}
 use Rattle.names.proofs.Using.{too-long, no-name, used-if}
 use Rattle.names.proofs.slot.is_used.Statement.{statement}
 use Rattle.names.proofs.slot.is_used.Tie as tie

@@ -1,8 +1,8 @@
 -- The byte is stored where there is room, and else nothing is.
 use borrow.Author.Needs.{needs}
-use Rattle.listing.proofs.Putting.{put-in, put-out}
-use Rattle.listing.proofs.put_byte.Statement.{statement}
-use Rattle.listing.proofs.put_byte.Tie as tie
+use Rattle.writing.specs.Putting.{put-in, put-out}
+use Rattle.writing.proofs.put_byte.Statement.{statement}
+use Rattle.writing.proofs.put_byte.Tie as tie
 
 returns : tie.Need-returns
 returns c = let s = c .before in put-in (s .args .byte) (s .args .text .now) (s .args .at) (c .if1 .taken)

@@ -4,13 +4,13 @@ use Prim.Native.Nat.{_-_, _≤_}
 use native.Mathlib.Omega.{arith}
 use borrow.Author.Needs.{needs}
 use lib.ListN.{length, drop, drop-of-length-le}
-use Rattle.listing.specs.Placing.{spot, puts}
-use Rattle.listing.proofs.Putting.{Rest, all-left, some-put, none-left, one-more}
-use Rattle.listing.proofs.put_bytes.Statement.{statement}
-use Rattle.listing.proofs.put_bytes.Tie as tie
+use Rattle.writing.specs.Writing.{page, puts}
+use Rattle.writing.specs.Putting.{Rest, all-left, some-put, none-left, one-more}
+use Rattle.writing.proofs.put_bytes.Statement.{statement}
+use Rattle.writing.proofs.put_bytes.Tie as tie
 
 abbrev Inv-loop : tie.InvT-loop
-Inv-loop text₀ at bytes end₀ i₀ text end i = (length text ≡ length text₀) × (i ≤ length bytes) × Rest (drop i bytes) text end (puts bytes (spot text₀ at))
+Inv-loop text₀ at bytes end₀ i₀ text end i = (length text ≡ length text₀) × (i ≤ length bytes) × Rest (drop i bytes) text end (puts bytes (page text₀ at))
 
 abbrev μ-loop : tie.MeasureT-loop
 μ-loop text₀ at bytes end₀ i₀ text end i = length bytes - i

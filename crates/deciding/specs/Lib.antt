@@ -1,0 +1,2 @@
+-- Tests, values picked by them, and what they decide.
+pub mod Deciding
