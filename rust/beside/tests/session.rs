@@ -19,8 +19,8 @@ const EXAMPLE: [u16; 27] = [
 
 /// The program, two levels above this crate.
 fn program() -> PathBuf {
-    let program = Path::new(env!("CARGO_MANIFEST_DIR")).join("../../target/bin/session");
-    assert!(program.exists(), "target/bin/session has to be built first");
+    let program = Path::new(env!("CARGO_MANIFEST_DIR")).join("../../target/session");
+    assert!(program.exists(), "`make session` has to be run first");
     program
 }
 
