@@ -9,6 +9,7 @@ use native.Mathlib.Decide.{ℕ-discrete}
 use lib.Dec.{eqb, ltb}
 use lib.ListN.{length, take, replicate, length-take, length-replicate, getD-replicate}
 use lib.Seq.{getD-take}
+use Rattle.layout.specs.Layout.{ruleNumbers, nodesLimit, rulesLimit, lastLink, treeWords, bookWords}
 use Rattle.bits.specs.Packed.{bits, sum}
 use Rattle.term.specs.Beginnings.{both, putIf, Begins}
 use Rattle.term.specs.Counting.{true≢false}
@@ -30,25 +31,25 @@ use Rattle.book.specs.Promises.{IsTerm, Empties, shownSize, shownCells, 
 
 module _ where
   abbrev zeros : List ℕ
-  zeros = replicate 12618 0
+  zeros = replicate bookWords 0
 
   none : ((n : ℕ) → view zeros .tree .used n ≡ false) × Passes (view zeros .tree) []
-  none = empty-words (take 4681 zeros) (λ k h. getD-take 4681 zeros k 0 (omega arith) ∙ getD-replicate 12618 k 0 0 (omega arith))
+  none = empty-words (take treeWords zeros) (λ k h. getD-take treeWords zeros k 0 (omega arith) ∙ getD-replicate bookWords k 0 0 (omega arith))
 
   none-listed : (u : ℕ → Bool) → ((n : ℕ) → u n ≡ false) → (n : ℕ) → listed u n ≡ []
   none-listed u h zero = refl
   none-listed u h (suc n) = ap (λ (b : Bool). putIf b n (listed u n)) (h n) ∙ none-listed u h n
 
   no-leaves : leaves (view zeros) ≡ []
-  no-leaves = ap (map (leaf (view zeros))) (none-listed (taken (view zeros)) (λ r. none .0 (4096 + r)) 512)
+  no-leaves = ap (map (leaf (view zeros))) (none-listed (taken (view zeros)) (λ r. none .0 (nodesLimit + r)) rulesLimit)
 
-  pub empty-passes : Passing (replicate 12618 0)
+  pub empty-passes : Passing (replicate bookWords 0)
   empty-passes = record {
-    size = length-replicate {A = ℕ} 12618 0;
-    right = record { records = λ r u. absurd (true≢false u (none .0 (4096 + r))); tree = subst (λ xs. Passes (view zeros .tree) (ends xs)) (sym no-leaves) (none .1) };
+    size = length-replicate {A = ℕ} bookWords 0;
+    right = record { records = λ r u. absurd (true≢false u (none .0 (nodesLimit + r))); tree = subst (λ xs. Passes (view zeros .tree) (ends xs)) (sym no-leaves) (none .1) };
   }
 
-  pub empty-rules : rulesIn (replicate 12618 0) ≡ noRules
+  pub empty-rules : rulesIn (replicate bookWords 0) ≡ noRules
   empty-rules = fun-ext (λ k. ap (λ (b : Bool). pickHeld b (rule (term (view zeros) (view zeros .place k))) nothing) (not-held k))
     where
       both-false : (a : Bool) → both a false ≡ false
@@ -57,35 +58,35 @@ module _ where
 
       not-held : (k : ℕ) → heldAt (view zeros) k ≡ false
       not-held k =
-          ap (λ (b : Bool). both (ltb (view zeros .place k) 512) (both b (eqb (number (view zeros) (view zeros .place k)) k))) (none .0 (4096 + view zeros .place k))
-          ∙ both-false (ltb (view zeros .place k) 512)
+          ap (λ (b : Bool). both (ltb (view zeros .place k) rulesLimit) (both b (eqb (number (view zeros) (view zeros .place k)) k))) (none .0 (nodesLimit + view zeros .place k))
+          ∙ both-false (ltb (view zeros .place k) rulesLimit)
 
 -- ---- one set of rules, within the limits
 
 pub record Limited (rules : Rules) : Type 0 where
-  pub few : ruleCount rules ≤ 512
-  pub nodes : nodesOf rules ≤ 4096
-  pub numbers : (k : ℕ) (t : List ℕ) → rules k ≡ rule t → k < 4096
+  pub few : ruleCount rules ≤ rulesLimit
+  pub nodes : nodesOf rules ≤ nodesLimit
+  pub numbers : (k : ℕ) (t : List ℕ) → rules k ≡ rule t → k < ruleNumbers
   pub whole : (k : ℕ) (t : List ℕ) → rules k ≡ rule t → IsTerm t
 
 -- The used nodes and the different beginnings of blank forms go together one by one.
 pub record Nodes (ws : List ℕ) : Type 0 where
-  pub row : (n : ℕ) → n < 4096 → Used (view ws .tree) n → (r : List ℕ) × Up (view ws .tree) (suc n) r × Begins (reverse r) (map formOf (terms (rulesIn ws)))
+  pub row : (n : ℕ) → n < nodesLimit → Used (view ws .tree) n → (r : List ℕ) × Up (view ws .tree) (suc n) r × Begins (reverse r) (map formOf (terms (rulesIn ws)))
   pub one-row : (n : ℕ) (r s : List ℕ) → Up (view ws .tree) (suc n) r → Up (view ws .tree) (suc n) s → r ≡ s
-  pub node : (r : List ℕ) → Begins (reverse r) (map formOf (terms (rulesIn ws))) → (n : ℕ) × (n < 4096) × Up (view ws .tree) (suc n) r
+  pub node : (r : List ℕ) → Begins (reverse r) (map formOf (terms (rulesIn ws))) → (n : ℕ) × (n < nodesLimit) × Up (view ws .tree) (suc n) r
   pub one-node : (m n : ℕ) (r : List ℕ) → Up (view ws .tree) (suc m) r → Up (view ws .tree) (suc n) r → m ≡ n
 
 module _ (ws : List ℕ) (p : Passing ws) where
-  long : length (take 4681 ws) ≡ 4681
-  long = omega (arith, length-take 4681 ws, p .size)
+  long : length (take treeWords ws) ≡ treeWords
+  long = omega (arith, length-take treeWords ws, p .size)
 
-  low : (n : ℕ) → Used (view ws .tree) n → n < 4608
-  low = used-low (take 4681 ws) long
+  low : (n : ℕ) → Used (view ws .tree) n → n < lastLink
+  low = used-low (take treeWords ws) long
 
   pub limited : Limited (rulesIn ws)
   limited = record {
-    few = omega (arith, count-tally (rulesIn ws), rules-tally (view ws) low (p .right), tally-le (taken (view ws)) 512);
-    nodes = omega (arith, nodes-tally (view ws) low (p .right), tally-le (view ws .tree .used) 4096);
+    few = omega (arith, count-tally (rulesIn ws), rules-tally (view ws) low (p .right), tally-le (taken (view ws)) rulesLimit);
+    nodes = omega (arith, nodes-tally (view ws) low (p .right), tally-le (view ws .tree .used) nodesLimit);
     numbers = number-low (view ws) low (p .right);
     whole = whole;
   }
@@ -112,19 +113,19 @@ module _ (ws : List ℕ) (p : Passing ws) where
   }
 
   -- the nodes in use are as many as the node count says
-  pub nodes-in-use : tally (view ws .tree .used) 4096 ≡ nodesOf (rulesIn ws)
+  pub nodes-in-use : tally (view ws .tree .used) nodesLimit ≡ nodesOf (rulesIn ws)
   nodes-in-use = sym (nodes-tally (view ws) low (p .right))
 
   -- the count of set bits is the node count
-  pub bits-set : sum (bits (nodeMap (take 4681 ws))) ≡ nodesOf (rulesIn ws)
-  bits-set = nodes-held (take 4681 ws) long ∙ nodes-in-use
+  pub bits-set : sum (bits (nodeMap (take treeWords ws))) ≡ nodesOf (rulesIn ws)
+  bits-set = nodes-held (take treeWords ws) long ∙ nodes-in-use
 
 -- ---- one outcome
 
 pub empties-once : (ws a b : List ℕ) (r s : ℕ) → Empties ws a r → Empties ws b s → (r ≡ s) × (a ≡ b)
-empties-once ws a b r s x y = go (ℕ-discrete (length ws) 12618)
+empties-once ws a b r s x y = go (ℕ-discrete (length ws) bookWords)
   where
-    go : Dec (length ws ≡ 12618) → (r ≡ s) × (a ≡ b)
+    go : Dec (length ws ≡ bookWords) → (r ≡ s) × (a ≡ b)
     go (yes e) = (x .made e .0 ∙ sym (y .made e .0), x .made e .1 ∙ sym (y .made e .1))
     go (no n) = (x .refused n .0 ∙ sym (y .refused n .0), x .refused n .1 ∙ sym (y .refused n .1))
 

@@ -6,6 +6,7 @@ use native.Mathlib.Omega.{arith}
 use native.Mathlib.Decide.{ℕ-discrete, decLt}
 use lib.ListN.{length, getD, set, take, replicate, length-set, length-append, length-take, length-replicate, length-map, List·getD-append, List·getD-eq-default}
 use lib.Seq.{ext-getD, getD-set-same, getD-set-other, getD-append-add, getD-take}
+use Rattle.layout.specs.Layout.{termWords}
 use Rattle.bits.specs.Packed.{parts, fields, Zeros}
 use Rattle.bits.specs.Laws.{length-unpack, parts-zero, at-word}
 use Rattle.book.specs.Memory.{blankNumber, formOf}
@@ -168,7 +169,7 @@ loading-more ws cells i a b c d f h ea eb ec ed = record {
     four : Filled (set (set (set (set cells i a) (i + 1) b) (i + 2) c) (i + 3) d) (i + 3 + 1) (λ k. getD (fields ws) k 0)
     four = filled-more (set (set (set cells i a) (i + 1) b) (i + 2) c) _ (i + 3) d (λ k. getD (fields ws) k 0) (inside (set (set (set cells i a) (i + 1) b) (i + 2) c) (i + 3) (simp length-set) (omega arith)) refl ed (λ k l. three k (omega arith))
 
-pub loaded : (ws cells : List ℕ) (i size : ℕ) → length ws ≡ 8 → Zeros (fields ws) size → size ≤ i → Loading ws cells i → cells ≡ fields ws
+pub loaded : (ws cells : List ℕ) (i size : ℕ) → length ws ≡ termWords → Zeros (fields ws) size → size ≤ i → Loading ws cells i → cells ≡ fields ws
 loaded ws cells i size e z h f = ext-getD 0 cells (fields ws) (let n = f .long in omega (arith, fields-long ws)) (λ k b. go k (decLt k i))
   where
     go : (k : ℕ) → Dec (k < i) → getD cells k 0 ≡ getD (fields ws) k 0

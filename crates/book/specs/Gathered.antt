@@ -5,6 +5,7 @@ use mathlib.Core.List.{List, [], _++_, append-assoc, List·Memᴰ, List·Memᴰ�
 use Prim.Native.Nat.{ℕ, zero, suc, _+_, _≤_, _<_}
 use native.Mathlib.Omega.{arith}
 use native.Mathlib.Decide.{ℕ-discrete}
+use Rattle.layout.specs.Layout.{ruleNumbers}
 use Rattle.book.specs.Rules.{Held, nothing, rule, Rules, termsOf, each, terms}
 
 module _ {A : Type 0} (f : ℕ → List A) where
@@ -70,13 +71,13 @@ term-held (rule s) i = ap rule (sym (List·Memᴰ·eq-of-singleton i))
 
 pub record Standing (rules : Rules) (t : List ℕ) : Type 0 where
   pub number : ℕ
-  pub low : number < 4096
+  pub low : number < ruleNumbers
   pub is : rules number ≡ rule t
 
 pub terms-standing : (rules : Rules) (t : List ℕ) → List·Memᴰ t (terms rules) ↔ Standing rules t
 terms-standing rules t = (
-  (λ i. let g = of-each (λ k. termsOf (rules k)) 4096 0 i in
+  (λ i. let g = of-each (λ k. termsOf (rules k)) ruleNumbers 0 i in
       record { number = g .at; low = (let b = g .below in omega arith); is = term-held (rules (g .at)) (g .among) }),
-  (λ s. to-each (λ k. termsOf (rules k)) 4096 0
+  (λ s. to-each (λ k. termsOf (rules k)) ruleNumbers 0
       (record { at = s .number; from = omega arith; below = (let l = s .low in omega arith); among = subst (λ h. List·Memᴰ t (termsOf h)) (sym (s .is)) (List·Memᴰ·head refl) })),
 )

@@ -8,6 +8,7 @@ use native.Mathlib.Omega.{arith}
 use borrow.Author.Tests.{lt-ltb, ltb-true, eqb-true}
 use lib.Dec.{eqb, ltb}
 use lib.ListN.{length, length-append, length-map, length-take}
+use Rattle.layout.specs.Layout.{ruleNumbers, nodesLimit, rulesLimit, lastLink}
 use Rattle.term.specs.Beginnings.{both}
 use Rattle.term.specs.Distinct.{as-many, distinct-map}
 use Rattle.term.specs.Counting.{true≢false, nodes-same}
@@ -35,20 +36,20 @@ abbrev pub endAt : View → ℕ → End
 endAt v r = endOf (leaf v r)
 
 -- The ends of all places that pass a test: which ends stand in the list.
-pub of-ends : (v : View) (u : ℕ → Bool) {y : End} → List·Memᴰ y (ends (map (leaf v) (listed u 512))) → (r : ℕ) × (u r ≡ true) × (r < 512) × (endAt v r ≡ y)
+pub of-ends : (v : View) (u : ℕ → Bool) {y : End} → List·Memᴰ y (ends (map (leaf v) (listed u rulesLimit))) → (r : ℕ) × (u r ≡ true) × (r < rulesLimit) × (endAt v r ≡ y)
 of-ends v u i =
-    let a = Memᴰ·of-map endOf (map (leaf v) (listed u 512)) i in
-    let b = Memᴰ·of-map (leaf v) (listed u 512) (a .1) in
-    let c = of-listed u 512 (b .1) in
+    let a = Memᴰ·of-map endOf (map (leaf v) (listed u rulesLimit)) i in
+    let b = Memᴰ·of-map (leaf v) (listed u rulesLimit) (a .1) in
+    let c = of-listed u rulesLimit (b .1) in
     (b .0, c .0, c .1, ap endOf (b .2) ∙ a .2)
 
-pub to-ends : (v : View) (u : ℕ → Bool) (r : ℕ) → u r ≡ true → r < 512 → List·Memᴰ (endAt v r) (ends (map (leaf v) (listed u 512)))
-to-ends v u r e l = Memᴰ·map endOf (Memᴰ·map (leaf v) (to-listed u 512 r e l))
+pub to-ends : (v : View) (u : ℕ → Bool) (r : ℕ) → u r ≡ true → r < rulesLimit → List·Memᴰ (endAt v r) (ends (map (leaf v) (listed u rulesLimit)))
+to-ends v u r e l = Memᴰ·map endOf (Memᴰ·map (leaf v) (to-listed u rulesLimit r e l))
 
 -- The rule with the number k and the term t, at the place r.
 pub record At (v : View) (k : ℕ) (t : List ℕ) : Type 0 where
   pub place : ℕ
-  pub low : place < 512
+  pub low : place < rulesLimit
   pub used : taken v place ≡ true
   pub has : number v place ≡ k
   pub is : term v place ≡ t
@@ -58,14 +59,14 @@ holds-at v k t e = go (heldAt v k) refl e
   where
     go : (b : Bool) → heldAt v k ≡ b → pickHeld b (rule (term v (v .place k))) nothing ≡ rule t → At v k t
     go true q e =
-        let a = of-both (ltb (v .place k) 512) (both (taken v (v .place k)) (eqb (number v (v .place k)) k)) q in
+        let a = of-both (ltb (v .place k) rulesLimit) (both (taken v (v .place k)) (eqb (number v (v .place k)) k)) q in
         let b = of-both (taken v (v .place k)) (eqb (number v (v .place k)) k) (a .1) in
-        record { place = v .place k; low = ltb-true (v .place k) 512 (a .0); used = b .0; has = eqb-true (number v (v .place k)) k (b .1); is = rule-inj e }
+        record { place = v .place k; low = ltb-true (v .place k) rulesLimit (a .0); used = b .0; has = eqb-true (number v (v .place k)) k (b .1); is = rule-inj e }
     go false q e = absurd (not-rule e)
 
-module _ (v : View) (small : (n : ℕ) → Used (v .tree) n → n < 4608) (right : Right v) where
-  place-low : (r : ℕ) → taken v r ≡ true → r < 512
-  place-low r u = let l = small (4096 + r) u in omega arith
+module _ (v : View) (small : (n : ℕ) → Used (v .tree) n → n < lastLink) (right : Right v) where
+  place-low : (r : ℕ) → taken v r ≡ true → r < rulesLimit
+  place-low r u = let l = small (nodesLimit + r) u in omega arith
 
   pub term-at : (r : ℕ) → taken v r ≡ true → TermAt (v .cells r) (v .size r)
   term-at r u = whole-term (v .cells r) (v .size r) (right .records r u .whole)
@@ -74,20 +75,20 @@ module _ (v : View) (small : (n : ℕ) → Used (v .tree) n → n < 4608) (right
   term-size r u = omega (arith, length-take (v .size r) (v .cells r), term-at r u .inside)
 
   leaf-taken : {x : Leaf} → List·Memᴰ x (leaves v) → (r : ℕ) × (taken v r ≡ true) × (leaf v r ≡ x)
-  leaf-taken i = let q = Memᴰ·of-map (leaf v) (listed (taken v) 512) i in (q .0, of-listed (taken v) 512 (q .1) .0, q .2)
+  leaf-taken i = let q = Memᴰ·of-map (leaf v) (listed (taken v) rulesLimit) i in (q .0, of-listed (taken v) rulesLimit (q .1) .0, q .2)
 
   pub taken-leaf : (r : ℕ) → taken v r ≡ true → List·Memᴰ (leaf v r) (leaves v)
-  taken-leaf r u = Memᴰ·map (leaf v) (to-listed (taken v) 512 r u (place-low r u))
+  taken-leaf r u = Memᴰ·map (leaf v) (to-listed (taken v) rulesLimit r u (place-low r u))
 
   -- the rules hang in the tree
   pub hanging : Hanging (v .tree) (leaves v)
   hanging = record { passes = right .tree; all = all; free = free; few = few }
     where
-      all : (n : ℕ) → 4096 ≤ n → Used (v .tree) n → (x : Leaf) × List·Memᴰ x (leaves v) × (4096 + x .slot ≡ n)
+      all : (n : ℕ) → nodesLimit ≤ n → Used (v .tree) n → (x : Leaf) × List·Memᴰ x (leaves v) × (nodesLimit + x .slot ≡ n)
       all n h u =
-          let e : n ≡ 4096 + (n - 4096) = omega arith in
-          let w : taken v (n - 4096) ≡ true = ap (v .tree .used) (sym e) ∙ u in
-          (leaf v (n - 4096), taken-leaf (n - 4096) w, sym e)
+          let e : n ≡ nodesLimit + (n - nodesLimit) = omega arith in
+          let w : taken v (n - nodesLimit) ≡ true = ap (v .tree .used) (sym e) ∙ u in
+          (leaf v (n - nodesLimit), taken-leaf (n - nodesLimit) w, sym e)
 
       free : (x y : Leaf) → List·Memᴰ x (leaves v) → List·Memᴰ y (leaves v) → (s : List ℕ) → x .form ++ s ≡ y .form → s ≡ []
       free x y i j s e =
@@ -105,8 +106,8 @@ module _ (v : View) (small : (n : ℕ) → Used (v .tree) n → n < 4608) (right
   pub at-holds : (r : ℕ) → taken v r ≡ true → rulesOf v (number v r) ≡ rule (term v r)
   at-holds r u =
       let p : v .place (number v r) ≡ r = right .records r u .found in
-      let h : heldAt v (number v r) ≡ true = ap (λ (z : ℕ). both (ltb z 512) (both (taken v z) (eqb (number v z) (number v r)))) p
-      ∙ both-true (ltb r 512) (both (taken v r) (eqb (number v r) (number v r))) (lt-ltb r 512 (place-low r u))
+      let h : heldAt v (number v r) ≡ true = ap (λ (z : ℕ). both (ltb z rulesLimit) (both (taken v z) (eqb (number v z) (number v r)))) p
+      ∙ both-true (ltb r rulesLimit) (both (taken v r) (eqb (number v r) (number v r))) (lt-ltb r rulesLimit (place-low r u))
       (both-true (taken v r) (eqb (number v r) (number v r)) u (eqb-exact (number v r))) in
       ap₂ (λ (b : Bool) (z : ℕ). pickHeld b (rule (term v z)) nothing) h p
 
@@ -114,29 +115,29 @@ module _ (v : View) (small : (n : ℕ) → Used (v .tree) n → n < 4608) (right
   pub one-place : (r s : ℕ) → taken v r ≡ true → taken v s ≡ true → number v r ≡ number v s → r ≡ s
   one-place r s u w e = sym (right .records r u .found) ∙ ap (v .place) e ∙ right .records s w .found
 
-  pub number-low : (k : ℕ) (t : List ℕ) → rulesOf v k ≡ rule t → k < 4096
-  number-low k t e = let a = holds-at v k t e in subst (λ (z : ℕ). z < 4096) (a .has) (right .records (a .place) (a .used) .low)
+  pub number-low : (k : ℕ) (t : List ℕ) → rulesOf v k ≡ rule t → k < ruleNumbers
+  number-low k t e = let a = holds-at v k t e in subst (λ (z : ℕ). z < ruleNumbers) (a .has) (right .records (a .place) (a .used) .low)
 
   -- as many rules as places taken
   held-true : (h : Held) → isHeld h ≡ true → (t : List ℕ) × (h ≡ rule t)
   held-true nothing e = absurd (true≢false e refl)
   held-true (rule t) e = (t, refl)
 
-  pub rules-tally : tally (λ k. isHeld (rulesOf v k)) 4096 ≡ tally (taken v) 512
+  pub rules-tally : tally (λ k. isHeld (rulesOf v k)) ruleNumbers ≡ tally (taken v) rulesLimit
   rules-tally =
-      sym (length-listed (λ k. isHeld (rulesOf v k)) 4096)
-      ∙ as-many (listed (λ k. isHeld (rulesOf v k)) 4096) (map (number v) (listed (taken v) 512))
-      (listed-distinct (λ k. isHeld (rulesOf v k)) 4096)
-      (distinct-map (number v) (listed (taken v) 512) (listed-distinct (taken v) 512)
-      (λ r s i j e. one-place r s (of-listed (taken v) 512 i .0) (of-listed (taken v) 512 j .0) e))
-      (λ k i. let q = of-listed (λ j. isHeld (rulesOf v j)) 4096 i in
+      sym (length-listed (λ k. isHeld (rulesOf v k)) ruleNumbers)
+      ∙ as-many (listed (λ k. isHeld (rulesOf v k)) ruleNumbers) (map (number v) (listed (taken v) rulesLimit))
+      (listed-distinct (λ k. isHeld (rulesOf v k)) ruleNumbers)
+      (distinct-map (number v) (listed (taken v) rulesLimit) (listed-distinct (taken v) rulesLimit)
+      (λ r s i j e. one-place r s (of-listed (taken v) rulesLimit i .0) (of-listed (taken v) rulesLimit j .0) e))
+      (λ k i. let q = of-listed (λ j. isHeld (rulesOf v j)) ruleNumbers i in
       let t = held-true (rulesOf v k) (q .0) in
       let a = holds-at v k (t .0) (t .1) in
-      Memᴰ·cast (sym (a .has)) (Memᴰ·map (number v) (to-listed (taken v) 512 (a .place) (a .used) (a .low))))
-      (λ k i. let q = Memᴰ·of-map (number v) (listed (taken v) 512) i in
-      let u = of-listed (taken v) 512 (q .1) .0 in
-      to-listed (λ j. isHeld (rulesOf v j)) 4096 k (ap (λ (z : ℕ). isHeld (rulesOf v z)) (sym (q .2)) ∙ ap isHeld (at-holds (q .0) u)) (subst (λ (z : ℕ). z < 4096) (q .2) (right .records (q .0) u .low)))
-      ∙ length-map (listed (taken v) 512) (number v) ∙ length-listed (taken v) 512
+      Memᴰ·cast (sym (a .has)) (Memᴰ·map (number v) (to-listed (taken v) rulesLimit (a .place) (a .used) (a .low))))
+      (λ k i. let q = Memᴰ·of-map (number v) (listed (taken v) rulesLimit) i in
+      let u = of-listed (taken v) rulesLimit (q .1) .0 in
+      to-listed (λ j. isHeld (rulesOf v j)) ruleNumbers k (ap (λ (z : ℕ). isHeld (rulesOf v z)) (sym (q .2)) ∙ ap isHeld (at-holds (q .0) u)) (subst (λ (z : ℕ). z < ruleNumbers) (q .2) (right .records (q .0) u .low)))
+      ∙ length-map (listed (taken v) rulesLimit) (number v) ∙ length-listed (taken v) rulesLimit
 
   -- the forms that hang are those of the rules
   pub base-forms : (f : List ℕ) → List·Memᴰ f (bases (leaves v)) ↔ List·Memᴰ f (map formOf (terms (rulesOf v)))
@@ -157,16 +158,16 @@ module _ (v : View) (small : (n : ℕ) → Used (v .tree) n → n < 4608) (right
           Memᴰ·cast (sym (q .2) ∙ ap formOf (sym (a .is))) (Memᴰ·map (λ (x : Leaf). x .form) (taken-leaf (a .place) (a .used)))
 
   -- the nodes are those of the rules
-  pub nodes-tally : nodesOf (rulesOf v) ≡ tally (v .tree .used) 4096
+  pub nodes-tally : nodesOf (rulesOf v) ≡ tally (v .tree .used) nodesLimit
   nodes-tally =
       count-forms (terms (rulesOf v))
       ∙ sym (nodes-same eqb (λ a b e. eqb-true a b e) eqb-exact (bases (leaves v)) (map formOf (terms (rulesOf v))) base-forms)
       ∙ nodes-are (v .tree) (bases (leaves v)) (numbered hanging)
 
 -- the count of some rules, number by number
-pub count-tally : (rules : Rules) → ruleCount rules ≡ tally (λ k. isHeld (rules k)) 4096
+pub count-tally : (rules : Rules) → ruleCount rules ≡ tally (λ k. isHeld (rules k)) ruleNumbers
 unfolding each tally
-count-tally rules = go 4096
+count-tally rules = go ruleNumbers
   where
     f : ℕ → List (List ℕ)
     f k = termsOf (rules k)

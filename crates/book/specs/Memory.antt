@@ -5,6 +5,7 @@ use mathlib.Core.Bool.{Bool, true}
 use Prim.Native.Nat.{ℕ, _+_, _*_, _≤_, _<_}
 use lib.Dec.{eqb, ltb}
 use lib.ListN.{length, getD, take, drop}
+use Rattle.layout.specs.Layout.{ruleNumbers, nodesLimit, rulesLimit, treeWords, placesAt, placeWords, termWords, recordWords, recordsAt, termsAt, bookWords}
 use Rattle.bits.specs.Packed.{fields}
 use Rattle.term.specs.Cells.{blankOf, numberOf}
 use Rattle.term.specs.Reading.{readTerm}
@@ -24,13 +25,13 @@ pub record View : Type 0 where
   pub size : ℕ → ℕ
   pub cells : ℕ → List ℕ
 
--- The words: 4,681 of the tree, 2,305 of signs, of which nothing is said, 1,024 of places, four to a word, and 512 records of 9: the length, and 32 cells, four to a word.
+-- The words, as crates/layout/specs/Layout draws them: the tree; signs, of which nothing is said; places, four to a word; and the records: the length, and 32 cells, four to a word.
 abbrev pub view : List ℕ → View
 view ws = record {
-  tree = shape (take 4681 ws);
-  place = λ k. getD (fields (take 1024 (drop 6986 ws))) k 0;
-  size = λ r. getD ws (8010 + 9 * r) 0;
-  cells = λ r. fields (take 8 (drop (8011 + 9 * r) ws));
+  tree = shape (take treeWords ws);
+  place = λ k. getD (fields (take placeWords (drop placesAt ws))) k 0;
+  size = λ r. getD ws (recordsAt + recordWords * r) 0;
+  cells = λ r. fields (take termWords (drop (termsAt + recordWords * r) ws));
 }
 
 -- A term's blank form as the tree has it: 32,768 for each variable.
@@ -43,10 +44,10 @@ formOf t = map blankNumber t
 module _ (v : View) where
   -- Does a rule have the place r, what is its number, what is its term?
   abbrev pub taken : ℕ → Bool
-  taken r = v .tree .used (4096 + r)
+  taken r = v .tree .used (nodesLimit + r)
 
   abbrev pub number : ℕ → ℕ
-  number r = v .tree .cell (4096 + r)
+  number r = v .tree .cell (nodesLimit + r)
 
   abbrev pub term : ℕ → List ℕ
   term r = take (v .size r) (v .cells r)
@@ -58,18 +59,18 @@ module _ (v : View) where
   leaf r = record { slot = r; form = form r; number = number r }
 
   abbrev pub leaves : List Leaf
-  leaves = map leaf (listed taken 512)
+  leaves = map leaf (listed taken rulesLimit)
 
   -- The set of rules: number k has the rule at its place, if that place is taken by a rule of number k.
   abbrev pub heldAt : ℕ → Bool
-  heldAt k = both (ltb (v .place k) 512) (both (taken (v .place k)) (eqb (number (v .place k)) k))
+  heldAt k = both (ltb (v .place k) rulesLimit) (both (taken (v .place k)) (eqb (number (v .place k)) k))
 
   abbrev pub rulesOf : Rules
   rulesOf k = pickHeld (heldAt k) (rule (term (v .place k))) nothing
 
   -- A record is right: its number is below 4,096 and leads back to it, its cells are one whole term of its length, and zeros.
   pub record Recorded (r : ℕ) : Type 0 where
-    pub low : number r < 4096
+    pub low : number r < ruleNumbers
     pub found : v .place (number r) ≡ r
     pub whole : readTerm (v .cells r) ≡ Whole (v .size r)
     pub clean : (i : ℕ) → v .size r ≤ i → getD (v .cells r) i 0 ≡ 0
@@ -81,7 +82,7 @@ module _ (v : View) where
 
 -- Memory passes: it has the fixed length, and what it says is right.
 pub record Passing (ws : List ℕ) : Type 0 where
-  pub size : length ws ≡ 12618
+  pub size : length ws ≡ bookWords
   pub right : Right (view ws)
 
 -- The rules that it holds.

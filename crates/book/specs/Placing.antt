@@ -9,6 +9,7 @@ use borrow.Author.Tests.{ltb-true, eqb-true}
 use lib.Dec.{eqb, ltb}
 use lib.ListN.{length, getD, take, drop, replicate, length-take, length-drop, length-append, length-replicate, List·getD-append}
 use lib.Seq.{ext-getD, getD-take, getD-append-add}
+use Rattle.layout.specs.Layout.{rulesLimit, termWords, recordWords, termsAt}
 use Rattle.term.specs.Beginnings.{both}
 use Rattle.term.specs.Counting.{true≢false}
 use Rattle.book.specs.Rules.{nothing, rule, isHeld, pickHeld}
@@ -20,7 +21,7 @@ use Rattle.book.specs.Looking.{nodes-low}
 
 -- The rule with the number k is at the place r.
 pub record Placed (ws : List ℕ) (k r : ℕ) : Type 0 where
-  pub low : r < 512
+  pub low : r < rulesLimit
   pub used : taken (view ws) r ≡ true
   pub has : number (view ws) r ≡ k
   pub rule-is : rulesIn ws k ≡ rule (term (view ws) r)
@@ -30,27 +31,27 @@ of-both true b e = (refl, e)
 of-both false b e = absurd (true≢false e refl)
 
 module _ (ws : List ℕ) (k r : ℕ) (e : r ≡ pickPlace (heldAt (view ws) k) (view ws .place k)) where
-  pub not-placed : r ≡ 512 → rulesIn ws k ≡ nothing
+  pub not-placed : r ≡ rulesLimit → rulesIn ws k ≡ nothing
   not-placed h = go (heldAt (view ws) k) refl
     where
       go : (b : Bool) → heldAt (view ws) k ≡ b → rulesIn ws k ≡ nothing
       go false q = ap (λ (b : Bool). pickHeld b (rule (term (view ws) (view ws .place k))) nothing) q
       go true q =
           let p : r ≡ view ws .place k = e ∙ ap (λ (b : Bool). pickPlace b (view ws .place k)) q in
-          let l = ltb-true (view ws .place k) 512 (of-both (ltb (view ws .place k) 512) _ q .0) in
+          let l = ltb-true (view ws .place k) rulesLimit (of-both (ltb (view ws .place k) rulesLimit) _ q .0) in
           absurd (omega (arith, p, l, h))
 
-  pub placed : ¬ (r ≡ 512) → Placed ws k r
+  pub placed : ¬ (r ≡ rulesLimit) → Placed ws k r
   placed n = go (heldAt (view ws) k) refl
     where
       go : (b : Bool) → heldAt (view ws) k ≡ b → Placed ws k r
       go false q = absurd (n (e ∙ ap (λ (b : Bool). pickPlace b (view ws .place k)) q))
       go true q =
           let p : view ws .place k ≡ r = sym (e ∙ ap (λ (b : Bool). pickPlace b (view ws .place k)) q) in
-          let a = of-both (ltb (view ws .place k) 512) (both (taken (view ws) (view ws .place k)) (eqb (number (view ws) (view ws .place k)) k)) q in
+          let a = of-both (ltb (view ws .place k) rulesLimit) (both (taken (view ws) (view ws .place k)) (eqb (number (view ws) (view ws .place k)) k)) q in
           let b = of-both (taken (view ws) (view ws .place k)) (eqb (number (view ws) (view ws .place k)) k) (a .1) in
           record {
-            low = subst (λ (z : ℕ). z < 512) p (ltb-true (view ws .place k) 512 (a .0));
+            low = subst (λ (z : ℕ). z < rulesLimit) p (ltb-true (view ws .place k) rulesLimit (a .0));
             used = subst (λ (z : ℕ). taken (view ws) z ≡ true) p (b .0);
             has = subst (λ (z : ℕ). number (view ws) z ≡ k) p (eqb-true (number (view ws) (view ws .place k)) k (b .1));
             rule-is = ap₂ (λ (x : Bool) (z : ℕ). pickHeld x (rule (term (view ws) z)) nothing) q p;
@@ -75,7 +76,7 @@ shows-rule ws k r size cells p at es ec = record {
     long = term-size (view ws) (nodes-low ws (p .size)) (p .right) r (at .used)
 
     wide : length (view ws .cells r) ≡ 32
-    wide = fields-long (take 8 (drop (8011 + 9 * r) ws)) ∙ omega (arith, length-take 8 (drop (8011 + 9 * r) ws), length-drop (8011 + 9 * r) ws, p .size, at .low)
+    wide = fields-long (take termWords (drop (termsAt + recordWords * r) ws)) ∙ omega (arith, length-take termWords (drop (termsAt + recordWords * r) ws), length-drop (termsAt + recordWords * r) ws, p .size, at .low)
 
     short : view ws .size r ≤ 32
     short = term-at (view ws) (nodes-low ws (p .size)) (p .right) r (at .used) .short

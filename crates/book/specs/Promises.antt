@@ -4,6 +4,7 @@ use mathlib.Core.List.{List, _++_}
 use mathlib.Core.Bool.{Bool, true, false}
 use Prim.Native.Nat.{ℕ, _-_}
 use lib.ListN.{length, replicate}
+use Rattle.layout.specs.Layout.{rulesLimit, bookWords}
 use Rattle.term.specs.Reading.{readTerm}
 use Rattle.term.specs.declared.reading.Reading.the-variants.{Whole}
 use Rattle.book.specs.Rules.{Held, nothing, rule, isHeld, ruleCount, nodesOf, after}
@@ -15,8 +16,8 @@ IsTerm t = readTerm t ≡ Whole (length t)
 
 -- Making an empty book: any contents of the right length become zeros, which hold no rules; another length stays as it is.
 pub record Empties (ws ws′ : List ℕ) (r : ℕ) : Type 0 where
-  pub made : length ws ≡ 12618 → (r ≡ 0) × (ws′ ≡ replicate 12618 0)
-  pub refused : ¬ (length ws ≡ 12618) → (r ≡ 1) × (ws′ ≡ ws)
+  pub made : length ws ≡ bookWords → (r ≡ 0) × (ws′ ≡ replicate bookWords 0)
+  pub refused : ¬ (length ws ≡ bookWords) → (r ≡ 1) × (ws′ ≡ ws)
 
 -- What stands under a number: whether there is a rule, its length, and its cells with zeros after them.
 abbrev pub shownSize : Held → ℕ
@@ -40,4 +41,4 @@ pub record Counts (ws : List ℕ) (rules nodes : ℕ) : Type 0 where
 -- The place of a number's record, or 512 where the number is not held.
 abbrev pub pickPlace : Bool → ℕ → ℕ
 pickPlace true r = r
-pickPlace false r = 512
+pickPlace false r = rulesLimit

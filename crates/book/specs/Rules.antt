@@ -4,6 +4,7 @@ use mathlib.Core.Bool.{Bool, true, false}
 use Prim.Native.Nat.{ℕ, zero, suc, _+_}
 use lib.Dec.{eqb, leb, ltb}
 use lib.ListN.{length}
+use Rattle.layout.specs.Layout.{ruleNumbers, nodesLimit, rulesLimit}
 use Rattle.term.specs.Beginnings.{nodeCount}
 pub use Rattle.book.specs.declared.Added.{Added}
 pub use Rattle.book.specs.declared.Added.the-variants.{Taken, HeldAlready, BookFull, NoNodes}
@@ -48,7 +49,7 @@ each f (suc n) k = f k ++ each f n (suc k)
 
 -- The terms of all rules, ascending by number; how many rules there are; and their node count.
 abbrev pub terms : Rules → List (List ℕ)
-terms rules = each (λ k. termsOf (rules k)) 4096 0
+terms rules = each (λ k. termsOf (rules k)) ruleNumbers 0
 
 abbrev pub ruleCount : Rules → ℕ
 ruleCount rules = length (terms rules)
@@ -66,13 +67,6 @@ addRefusal NoNodes = 9
 abbrev pub pickAdded : Bool → Added → Added → Added
 pickAdded true a b = a
 pickAdded false a b = b
-
--- The book's limits, `Book::RULES` and `Book::NODES` of the code.
-abbrev pub rulesLimit : ℕ
-rulesLimit = 512
-
-abbrev pub nodesLimit : ℕ
-nodesLimit = 4096
 
 -- An add is judged in the order 6, 8, 9: number already held; 512 rules held; node count with the rule above 4,096.
 abbrev pub judged : Rules → ℕ → List ℕ → Added

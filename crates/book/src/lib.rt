@@ -1,10 +1,10 @@
-// The rule book in lent memory of 12,618 words.
+// The rule book in lent memory. The crate `layout` says where its parts stand:
 //
-//   word 0 to 4,680       the tree: the node map (64 words), the rule map (8), the root and the nodes, and behind them
-//                         the rules, which hang below the last nodes of their forms (crate `tree`)
-//   word 4,681 to 6,985   signs: hints for the search, four to a word (`tree::signs`)
-//   word 6,986 to 8,009   places: for each rule number the place of its record, four to a word
-//   word 8,010 + 9 r      the record at the place r: the length of the term, and 8 words with its 32 cells
+//   the tree       the maps, the root and the nodes, and behind them the rules, which hang below the last nodes of their forms
+//                  (crate `tree`)
+//   the signs      hints for the search, four to a word (`tree::signs`)
+//   the places     for each rule number the place of its record, four to a word
+//   the records    at each place the length of the term, and 8 words with its 32 cells
 //
 // A place of a number means something only where the rule there has that number, so removing a rule writes neither
 // places nor records.
@@ -13,6 +13,7 @@ pub mod record;
 ghost use mathlib.Core.Path.{_≡_};
 ghost use Prim.Native.Nat.{_<_};
 ghost use lib.ListN.{length};
+ghost use Rattle.layout.specs.Layout.{ruleNumbers, bookWords};
 ghost use Rattle.book.specs.Memory.{Passing, heldAt, view};
 ghost use Rattle.book.specs.Promises.{Empties, Shows, Counts, pickPlace};
 
@@ -49,11 +50,11 @@ pub struct Book {}
 
 impl Book {
     // The fixed length of a book's memory, in words.
-    pub const WORDS: usize = 12618;
+    pub const WORDS: usize = layout::BOOK_WORDS;
     // How many rules a book holds at the most.
-    pub const RULES: usize = tree::RULES;
+    pub const RULES: usize = layout::RULES_LIMIT;
     // How many nodes.
-    pub const NODES: usize = tree::NODES;
+    pub const NODES: usize = layout::NODES_LIMIT;
     // The mark of a blank.
     pub const MARK: u16 = term::MARK;
 
@@ -87,17 +88,17 @@ pub fn size_of(x: u16) -> usize
 
 // The place of a number's record, or 512 where the number is not held.
 pub fn place_of(m: &[u64], number: u16) -> usize
-    requires { ⌜ (length (now m) ≡ 12618) × (number < 4096) ⌝ }
+    requires { ⌜ (length (now m) ≡ bookWords) × (number < ruleNumbers) ⌝ }
     ensures { λ r. ⌜ r ≡ pickPlace (heldAt (view (now (m .entry))) number) (view (now (m .entry)) .place number) ⌝ }
 {
-    let r = size_of(bits::field(&m[6986..8010], size_of(number)));
+    let r = size_of(bits::field(&m[layout::PLACES_AT..layout::PLACES_END], size_of(number)));
     if Book::RULES <= r {
         return Book::RULES;
     }
-    if !bits::is_marked(&m[64..72], r) {
+    if !bits::is_marked(&m[layout::RULE_MAP_AT..layout::MAP_WORDS], r) {
         return Book::RULES;
     }
-    if tree::cell_of(m[4169 + r]) != wide(number) {
+    if tree::cell_of(m[layout::RULES_AT + r]) != wide(number) {
         return Book::RULES;
     }
     r
@@ -106,7 +107,7 @@ pub fn place_of(m: &[u64], number: u16) -> usize
 // The rule under a number.
 pub fn show(m: &[u64], number: u16) -> Shown
     requires { ⌜ Passing (now m) ⌝ }
-    requires { ⌜ number < 4096 ⌝ }
+    requires { ⌜ number < ruleNumbers ⌝ }
     ensures { λ r. ⌜ Shows (now (m .entry)) number (r .held) (r .size) (r .cells) ⌝ }
 {
     let r = place_of(m, number);
@@ -117,8 +118,8 @@ pub fn show(m: &[u64], number: u16) -> Shown
             cells: [0; 32],
         };
     }
-    let at = 8011 + 9 * r;
-    let end = at + 8;
+    let at = layout::TERMS_AT + layout::RECORD_WORDS * r;
+    let end = at + layout::TERM_WORDS;
     let cells = record::load(&m[at..end]);
     Shown {
         held: true,
@@ -132,7 +133,7 @@ pub fn room(m: &[u64]) -> Counted
     requires { ⌜ Passing (now m) ⌝ }
     ensures { λ r. ⌜ Counts (now (m .entry)) (r .rules) (r .nodes) ⌝ }
 {
-    let nodes = bits::count(&m[0..64]);
-    let rules = bits::count(&m[64..72]);
+    let nodes = bits::count(&m[0..layout::NODE_MAP_WORDS]);
+    let rules = bits::count(&m[layout::RULE_MAP_AT..layout::MAP_WORDS]);
     Counted { rules, nodes }
 }

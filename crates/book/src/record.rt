@@ -3,12 +3,13 @@ ghost use mathlib.Core.Path.{_≡_};
 ghost use mathlib.Core.List.{_++_, _∷_, []};
 ghost use Prim.Native.Nat.{ℕ, _+_, _-_, _≤_, _<_};
 ghost use lib.ListN.{length, take, replicate, getD};
+ghost use Rattle.layout.specs.Layout.{termWords};
 ghost use Rattle.bits.specs.Packed.{parts, fields, Zeros};
 ghost use Rattle.book.specs.Memory.{formOf};
 
 // The 32 cells of a record's words.
 pub fn load(words: &[u64]) -> [u16; 32]
-    requires { ⌜ length (now words) ≡ 8 ⌝ }
+    requires { ⌜ length (now words) ≡ termWords ⌝ }
     ensures { λ r. ⌜ r ≡ fields (now (words .entry)) ⌝ }
 {
     let mut cells = [0u16; 32];
@@ -22,7 +23,7 @@ pub fn load(words: &[u64]) -> [u16; 32]
 
 // The same of words whose cells are zero from `size` on: the words behind them are not read.
 pub fn load_term(words: &[u64], size: usize) -> [u16; 32]
-    requires { ⌜ length (now words) ≡ 8 ⌝ }
+    requires { ⌜ length (now words) ≡ termWords ⌝ }
     requires { ⌜ size ≤ 32 ⌝ }
     requires { ⌜ Zeros (fields (now words)) size ⌝ }
     ensures { λ r. ⌜ r ≡ fields (now (words .entry)) ⌝ }
@@ -62,11 +63,11 @@ fn four(term: &[u16], i: usize) -> u64
 
 // A term's cells, and zeros, into a record's words.
 pub fn store(words: &mut [u64], term: &[u16])
-    requires { ⌜ (length (now words) ≡ 8) × (length (now term) ≤ 32) ⌝ }
+    requires { ⌜ (length (now words) ≡ termWords) × (length (now term) ≤ 32) ⌝ }
     ensures { λ _. ⌜ fields (now (words .exit)) ≡ now (term .entry) ++ replicate (32 - length (now (term .entry))) 0 ⌝ }
 {
     let mut i: usize = 0;
-    while i < 8 {
+    while i < layout::TERM_WORDS {
         words[i] = four(term, 4 * i);
         i += 1;
     }

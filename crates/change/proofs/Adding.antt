@@ -10,6 +10,7 @@ use borrow.Author.Tests.{lt-ltb, le-ltb, le-leb, lt-leb, eq-eqb, ne-eqb}
 use lib.Dec.{eqb, ltb, leb}
 use lib.ListN.{length, getD, take, drop, length-take, length-drop, length-map, take-append-drop}
 use lib.Seq.{take-at, take-length}
+use Rattle.layout.specs.Layout.{ruleNumbers, ruleMapWords, nodesLimit, rulesLimit, ruleMapAt, lastLink, treeWords, bookWords}
 use Rattle.bits.specs.Packed.{bits, First}
 use Rattle.bits.specs.Laws.{length-bits, bit-low}
 use Rattle.term.specs.Cells.{Terms, blankForm}
@@ -68,7 +69,7 @@ module _ (ws : List ℕ) (k : ℕ) (t : List ℕ) (p : Passing ws) where
   -- 6
   pub held-already : (r : ℕ) → Placed ws k r → Adds ws ws k t answer.HeldAlready
   held-already r at = record {
-    answer = sym (ap (λ (h : Held). pickAdded (isHeld h) answer.HeldAlready (pickAdded (leb 512 (ruleCount (rulesIn ws))) answer.BookFull (pickAdded (ltb 4096 (nodesOf (withRule (rulesIn ws) k t))) answer.NoNodes answer.Taken))) (at .rule-is));
+    answer = sym (ap (λ (h : Held). pickAdded (isHeld h) answer.HeldAlready (pickAdded (leb rulesLimit (ruleCount (rulesIn ws))) answer.BookFull (pickAdded (ltb nodesLimit (nodesOf (withRule (rulesIn ws) k t))) answer.NoNodes answer.Taken))) (at .rule-is));
     passes = p;
     rules = refl;
     nodes = no-change (view ws .tree);
@@ -78,44 +79,44 @@ module _ (ws : List ℕ) (k : ℕ) (t : List ℕ) (p : Passing ws) where
   v : View
   v = view ws
 
-  low : (n : ℕ) → Used (view ws .tree) n → n < 4608
+  low : (n : ℕ) → Used (view ws .tree) n → n < lastLink
   low = nodes-low ws (p .size)
 
-  count-is : ruleCount (rulesIn ws) ≡ tally (taken (view ws)) 512
+  count-is : ruleCount (rulesIn ws) ≡ tally (taken (view ws)) rulesLimit
   count-is = count-tally (rulesIn ws) ∙ rules-tally (view ws) low (p .right)
 
-  bits-long : length (bits (take 8 (drop 64 ws))) ≡ 512
-  bits-long = omega (arith, length-bits (take 8 (drop 64 ws)), length-take 8 (drop 64 ws), length-drop 64 ws, p .size)
+  bits-long : length (bits (take ruleMapWords (drop ruleMapAt ws))) ≡ rulesLimit
+  bits-long = omega (arith, length-bits (take ruleMapWords (drop ruleMapAt ws)), length-take ruleMapWords (drop ruleMapAt ws), length-drop ruleMapAt ws, p .size)
 
   one : (x : ℕ) → x < 2 → ¬ (x ≡ 0) → eqb x 1 ≡ true
   one zero h n = absurd (n refl)
   one (suc zero) h n = refl
   one (suc (suc x)) h n = absurd (omega arith)
 
-  module _ (new : rulesIn ws k ≡ nothing) (r : ℕ) (f : First 0 (bits (take 8 (drop 64 ws))) 0 r) where
+  module _ (new : rulesIn ws k ≡ nothing) (r : ℕ) (f : First 0 (bits (take ruleMapWords (drop ruleMapAt ws))) 0 r) where
     -- 8
-    judge-full : (b : Bool) → leb 512 (ruleCount (rulesIn ws)) ≡ b → judged (rulesIn ws) k t ≡ pickAdded b answer.BookFull (pickAdded (ltb 4096 (nodesOf (withRule (rulesIn ws) k t))) answer.NoNodes answer.Taken)
+    judge-full : (b : Bool) → leb rulesLimit (ruleCount (rulesIn ws)) ≡ b → judged (rulesIn ws) k t ≡ pickAdded b answer.BookFull (pickAdded (ltb nodesLimit (nodesOf (withRule (rulesIn ws) k t))) answer.NoNodes answer.Taken)
     judge-full b e =
-        ap₂ (λ (h : Held) (x : Bool). pickAdded (isHeld h) answer.HeldAlready (pickAdded x answer.BookFull (pickAdded (ltb 4096 (nodesOf (withRule (rulesIn ws) k t))) answer.NoNodes answer.Taken))) new e
+        ap₂ (λ (h : Held) (x : Bool). pickAdded (isHeld h) answer.HeldAlready (pickAdded x answer.BookFull (pickAdded (ltb nodesLimit (nodesOf (withRule (rulesIn ws) k t))) answer.NoNodes answer.Taken))) new e
 
-    pub book-full : r ≡ 512 → Adds ws ws k t answer.BookFull
-    book-full e = record { answer = sym (judge-full true (le-leb 512 (ruleCount (rulesIn ws)) (omega (arith, count-is, all)))); passes = p; rules = refl; nodes = no-change (view ws .tree); same = λ _. refl }
+    pub book-full : r ≡ rulesLimit → Adds ws ws k t answer.BookFull
+    book-full e = record { answer = sym (judge-full true (le-leb rulesLimit (ruleCount (rulesIn ws)) (omega (arith, count-is, all)))); passes = p; rules = refl; nodes = no-change (view ws .tree); same = λ _. refl }
       where
-        all : tally (taken (view ws)) 512 ≡ 512
-        all = tally-all (taken (view ws)) 512 (λ y h. sym (rule-taken ws y h) ∙ one (getD (bits (take 8 (drop 64 ws))) y 0) (bit-low (take 8 (drop 64 ws)) y) (f .before y (omega arith) (omega arith)))
+        all : tally (taken (view ws)) rulesLimit ≡ rulesLimit
+        all = tally-all (taken (view ws)) rulesLimit (λ y h. sym (rule-taken ws y h) ∙ one (getD (bits (take ruleMapWords (drop ruleMapAt ws))) y 0) (bit-low (take ruleMapWords (drop ruleMapAt ws)) y) (f .before y (omega arith) (omega arith)))
 
-    module _ (some : ¬ (r ≡ 512)) where
-      pub place-low : r < 512
+    module _ (some : ¬ (r ≡ rulesLimit)) where
+      pub place-low : r < rulesLimit
       place-low = omega (arith, f .within, bits-long)
 
       pub place-free : taken (view ws) r ≡ false
       place-free = sym (rule-taken ws r place-low) ∙ ap (λ (x : ℕ). eqb x 1) (f .here (omega (arith, bits-long)))
 
-      not-full : leb 512 (ruleCount (rulesIn ws)) ≡ false
-      not-full = lt-leb 512 (ruleCount (rulesIn ws)) (omega (arith, count-is, tally-le (taken (view ws)) 512, fewer))
+      not-full : leb rulesLimit (ruleCount (rulesIn ws)) ≡ false
+      not-full = lt-leb rulesLimit (ruleCount (rulesIn ws)) (omega (arith, count-is, tally-le (taken (view ws)) rulesLimit, fewer))
         where
-          fewer : ¬ (tally (taken (view ws)) 512 ≡ 512)
-          fewer e = true≢false (as-many-all (λ y. true) (taken (view ws)) 512 (λ y h u. refl) (e ∙ sym (tally-all (λ y. true) 512 (λ y h. refl))) r place-low refl) place-free
+          fewer : ¬ (tally (taken (view ws)) rulesLimit ≡ rulesLimit)
+          fewer e = true≢false (as-many-all (λ y. true) (taken (view ws)) rulesLimit (λ y h u. refl) (e ∙ sym (tally-all (λ y. true) rulesLimit (λ y h. refl))) r place-low refl) place-free
 
       -- the term, and its form
       module _ (whole : IsTerm t) where
@@ -129,7 +130,7 @@ module _ (ws : List ℕ) (k : ℕ) (t : List ℕ) (p : Passing ws) where
         hang = hanging (view ws) low (p .right)
 
         leaf-at : (x : Leaf) → List·Memᴰ x (leaves (view ws)) → (j : ℕ) × (taken (view ws) j ≡ true) × (leaf (view ws) j ≡ x)
-        leaf-at x i = let q = Memᴰ·of-map (leaf (view ws)) _ i in (q .0, Rattle.tree.specs.Tallies.of-listed (taken (view ws)) 512 (q .1) .0, q .2)
+        leaf-at x i = let q = Memᴰ·of-map (leaf (view ws)) _ i in (q .0, Rattle.tree.specs.Tallies.of-listed (taken (view ws)) rulesLimit (q .1) .0, q .2)
 
         old-terms : (j : ℕ) → taken (view ws) j ≡ true → Terms 1 (blankForm (term (view ws) j))
         old-terms j u = term-at (view ws) low (p .right) j u .form
@@ -149,7 +150,7 @@ module _ (ws : List ℕ) (k : ℕ) (t : List ℕ) (p : Passing ws) where
         forms : List (List ℕ)
         forms = map formOf (terms (withRule (rulesIn ws) k t))
 
-        module _ (lk : k < 4096) where
+        module _ (lk : k < ruleNumbers) where
           with-here : withRule (rulesIn ws) k t k ≡ rule t
           with-here = ap (λ (b : Bool). pickHeld b (rule t) (rulesIn ws k)) (eq-eqb k k refl)
 
@@ -183,52 +184,52 @@ module _ (ws : List ℕ) (k : ℕ) (t : List ℕ) (p : Passing ws) where
           joined = Memᴰ·map formOf (terms-standing (withRule (rulesIn ws) k t) t .1 (record { number = k; low = lk; is = with-here }))
 
           -- planting
-          pub sound : Sound (take 4681 ws)
+          pub sound : Sound (take treeWords ws)
           sound = record { size = tree-long ws (p .size); tree = passes-tree (p .right .tree) }
 
-          module _ (t₁ : List ℕ) (l : ℕ) (form : List ℕ) (ef : form ≡ formOf t) (pl : Planted (take 4681 ws) t₁ form l) where
-            planted : Planted (take 4681 ws) t₁ (formOf t) l
-            planted = subst (λ (f : List ℕ). Planted (take 4681 ws) t₁ f l) ef pl
+          module _ (t₁ : List ℕ) (l : ℕ) (form : List ℕ) (ef : form ≡ formOf t) (pl : Planted (take treeWords ws) t₁ form l) where
+            planted : Planted (take treeWords ws) t₁ (formOf t) l
+            planted = subst (λ (f : List ℕ). Planted (take treeWords ws) t₁ f l) ef pl
 
             nodes-is : nodesOf (withRule (rulesIn ws) k t) ≡ Rattle.tree.specs.NodeCount.node-count forms
             unfolding forms
             nodes-is = count-forms (terms (withRule (rulesIn ws) k t))
 
             -- 9
-            pub no-nodes : l ≡ 0 → Adds ws (t₁ ++ drop 4681 ws) k t answer.NoNodes
+            pub no-nodes : l ≡ 0 → Adds ws (t₁ ++ drop treeWords ws) k t answer.NoNodes
             no-nodes e = record {
-              answer = sym (judge-full false not-full ∙ ap (λ (b : Bool). pickAdded b answer.NoNodes answer.Taken) (lt-ltb 4096 (nodesOf (withRule (rulesIn ws) k t)) (subst (λ (n : ℕ). 4096 < n) (sym nodes-is) (planted-full (take 4681 ws) t₁ (formOf t) l planted (leaves (view ws)) hang free-old forms of kept joined e))));
+              answer = sym (judge-full false not-full ∙ ap (λ (b : Bool). pickAdded b answer.NoNodes answer.Taken) (lt-ltb nodesLimit (nodesOf (withRule (rulesIn ws) k t)) (subst (λ (n : ℕ). nodesLimit < n) (sym nodes-is) (planted-full (take treeWords ws) t₁ (formOf t) l planted (leaves (view ws)) hang free-old forms of kept joined e))));
               passes = subst Passing (sym same) p;
               rules = ap rulesIn same;
               nodes = subst (λ (x : List ℕ). TakesLowest (view ws .tree) (view x .tree)) (sym same) (no-change (view ws .tree));
               same = λ _. same;
             }
               where
-                same : t₁ ++ drop 4681 ws ≡ ws
-                same = ap (λ (x : List ℕ). x ++ drop 4681 ws) (planted .full e .0) ∙ take-append-drop 4681 ws
+                same : t₁ ++ drop treeWords ws ≡ ws
+                same = ap (λ (x : List ℕ). x ++ drop treeWords ws) (planted .full e .0) ∙ take-append-drop treeWords ws
 
             module _ (nz : ¬ (l ≡ 0)) where
               judge-taken : judged (rulesIn ws) k t ≡ answer.Taken
-              judge-taken = judge-full false not-full ∙ ap (λ (b : Bool). pickAdded b answer.NoNodes answer.Taken) (le-ltb 4096 (nodesOf (withRule (rulesIn ws) k t)) (subst (λ (n : ℕ). n ≤ 4096) (sym nodes-is) (planted-fits (take 4681 ws) t₁ (formOf t) l planted (leaves (view ws)) hang free-old forms of kept joined nz)))
+              judge-taken = judge-full false not-full ∙ ap (λ (b : Bool). pickAdded b answer.NoNodes answer.Taken) (le-ltb nodesLimit (nodesOf (withRule (rulesIn ws) k t)) (subst (λ (n : ℕ). n ≤ nodesLimit) (sym nodes-is) (planted-fits (take treeWords ws) t₁ (formOf t) l planted (leaves (view ws)) hang free-old forms of kept joined nz)))
 
               partly : Partly (shape t₁) (ends (leaves (view ws))) l (reverse (formOf t))
-              partly = planted-partly (take 4681 ws) t₁ (formOf t) l planted nz (ends (leaves (view ws))) (p .right .tree)
+              partly = planted-partly (take treeWords ws) t₁ (formOf t) l planted nz (ends (leaves (view ws))) (p .right .tree)
 
-              rules-kept : (y : ℕ) → 4096 ≤ y → (shape t₁ .used y ≡ view ws .tree .used y) × (shape t₁ .cell y ≡ view ws .tree .cell y)
+              rules-kept : (y : ℕ) → nodesLimit ≤ y → (shape t₁ .used y ≡ view ws .tree .used y) × (shape t₁ .cell y ≡ view ws .tree .cell y)
               rules-kept y h = grown-rules (planted .grown nz) y h
 
-              pub hangable : length t₁ ≡ 4681 → Hangable t₁ l r k
+              pub hangable : length t₁ ≡ treeWords → Hangable t₁ l r k
               hangable lt = record {
                 sound = record { size = lt; tree = partly .tree };
                 live = up-live (partly .at);
                 place = place-low;
-                free = rules-kept (4096 + r) (omega arith) .0 ∙ place-free;
+                free = rules-kept (nodesLimit + r) (omega arith) .0 ∙ place-free;
                 low = lk;
                 absent = no-rule (formOf t) k partly free-new other-numbers;
               }
 
               -- the rule is taken
-              pub taken-now : (t₂ ws₂ ws₃ : List ℕ) (ws₁ : List ℕ) → TreeOnly ws ws₁ (shape t₁) → Hung (shape t₁) (shape t₂) l r k → TreeOnly ws₁ ws₂ (shape t₂) → Stores (view ws₂) (view ws₃) k r t → length ws₃ ≡ 12618 → Adds ws ws₃ k t answer.Taken
+              pub taken-now : (t₂ ws₂ ws₃ : List ℕ) (ws₁ : List ℕ) → TreeOnly ws ws₁ (shape t₁) → Hung (shape t₁) (shape t₂) l r k → TreeOnly ws₁ ws₂ (shape t₂) → Stores (view ws₂) (view ws₃) k r t → length ws₃ ≡ bookWords → Adds ws ws₃ k t answer.Taken
               taken-now t₂ ws₂ ws₃ ws₁ o₁ hung o₂ st size = record {
                 answer = sym judge-taken;
                 passes = record { size = size; right = added-right (view ws) (view ws₃) k r l t (shape t₁) low (p .right) added };
@@ -238,7 +239,7 @@ module _ (ws : List ℕ) (k : ℕ) (t : List ℕ) (p : Passing ws) where
               }
                 where
                   -- hanging the rule and writing its record touch no node
-                  still : (n : ℕ) → n < 4096 → view ws₃ .tree .used n ≡ shape t₁ .used n
+                  still : (n : ℕ) → n < nodesLimit → view ws₃ .tree .used n ≡ shape t₁ .used n
                   still n h = ap (λ (m : Shape). m .used n) (st .tree ∙ o₂ .tree) ∙ hung .links .kept .used n (λ e. omega arith)
 
                   added : Added (view ws) (view ws₃) k r l t (shape t₁)

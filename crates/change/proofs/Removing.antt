@@ -8,6 +8,7 @@ use native.Mathlib.Omega.{arith}
 use native.Mathlib.Decide.{ℕ-discrete}
 use borrow.Author.Tests.{eq-eqb, ne-eqb}
 use lib.ListN.{length, getD, take, drop}
+use Rattle.layout.specs.Layout.{nodesLimit, treeWords, placesAt, placeWords, termWords, recordWords, recordsAt, termsAt, bookWords}
 use Rattle.bits.specs.Packed.{fields}
 use Rattle.term.specs.Counting.{true≢false}
 use Rattle.tree.specs.Words.{shape}
@@ -41,17 +42,17 @@ pub record TreeOnly (ws ws′ : List ℕ) (m : Shape) : Type 0 where
   pub sizes : (j : ℕ) → view ws′ .size j ≡ view ws .size j
   pub cellss : (j : ℕ) → view ws′ .cells j ≡ view ws .cells j
 
-pub tree-only : (ws t : List ℕ) → length ws ≡ 12618 → length t ≡ 4681 → TreeOnly ws (t ++ drop 4681 ws) (shape t)
+pub tree-only : (ws t : List ℕ) → length ws ≡ bookWords → length t ≡ treeWords → TreeOnly ws (t ++ drop treeWords ws) (shape t)
 tree-only ws t size lt = record {
   long = e .long;
-  tree = ap shape (front-is 4681 ws t lt);
-  places = λ j. ap (λ (l : List ℕ). getD (fields l) j 0) (window e 6986 1024 (inr (omega arith)));
-  sizes = λ j. e .kept (8010 + 9 * j) (inr (omega arith));
-  cellss = λ j. ap fields (window e (8011 + 9 * j) 8 (inr (omega arith)));
+  tree = ap shape (front-is treeWords ws t lt);
+  places = λ j. ap (λ (l : List ℕ). getD (fields l) j 0) (window e placesAt placeWords (inr (omega arith)));
+  sizes = λ j. e .kept (recordsAt + recordWords * j) (inr (omega arith));
+  cellss = λ j. ap fields (window e (termsAt + recordWords * j) termWords (inr (omega arith)));
 }
   where
-    e : Elsewhere ws (t ++ drop 4681 ws) 0 4681
-    e = front-part 4681 ws t (omega arith) lt
+    e : Elsewhere ws (t ++ drop treeWords ws) 0 treeWords
+    e = front-part treeWords ws t (omega arith) lt
 
 -- ---- a rule removed
 
@@ -61,20 +62,20 @@ trimmed-used root y u = u
 trimmed-used (stays e) y u = u
 trimmed-used (goes {m} {m₁} {m′} {n} s out rest) y u = let v = trimmed-used rest y u in sym (out .kept .used y (λ e. true≢false v (ap (m₁ .used) e ∙ out .gone))) ∙ v
 
-pub rule-gone : (ws : List ℕ) (k r : ℕ) → Passing ws → Placed ws k r → (t : List ℕ) → length t ≡ 4681 → Trimmed (shape (take 4681 ws)) (suc (4096 + r)) (shape t) → Removes ws (t ++ drop 4681 ws) k Gone
+pub rule-gone : (ws : List ℕ) (k r : ℕ) → Passing ws → Placed ws k r → (t : List ℕ) → length t ≡ treeWords → Trimmed (shape (take treeWords ws)) (suc (nodesLimit + r)) (shape t) → Removes ws (t ++ drop treeWords ws) k Gone
 rule-gone ws k r p at t lt tr = record {
   answer = sym (ap removal (at .rule-is));
-  passes = record { size = o .long ∙ p .size; right = removed-right (view ws) (view (t ++ drop 4681 ws)) r (nodes-low ws (p .size)) (p .right) removed };
-  rules = fun-ext (λ j. removed-rules (view ws) (view (t ++ drop 4681 ws)) r (nodes-low ws (p .size)) (p .right) removed j ∙ ap (λ (n : ℕ). withoutRule (rulesIn ws) n j) (at .has));
+  passes = record { size = o .long ∙ p .size; right = removed-right (view ws) (view (t ++ drop treeWords ws)) r (nodes-low ws (p .size)) (p .right) removed };
+  rules = fun-ext (λ j. removed-rules (view ws) (view (t ++ drop treeWords ws)) r (nodes-low ws (p .size)) (p .right) removed j ∙ ap (λ (n : ℕ). withoutRule (rulesIn ws) n j) (at .has));
   nodes = record { were = λ n l u. trimmed-used (removed .trimmed) n u };
   same = λ e. absurd (gone-held e);
 }
   where
-    o : TreeOnly ws (t ++ drop 4681 ws) (shape t)
+    o : TreeOnly ws (t ++ drop treeWords ws) (shape t)
     o = tree-only ws t (p .size) lt
 
-    removed : Taken-away (view ws) (view (t ++ drop 4681 ws)) r
-    removed = record { used = at .used; trimmed = subst (λ (m : Shape). Trimmed (view ws .tree) (suc (4096 + r)) m) (sym (o .tree)) tr; places = o .places; sizes = o .sizes; cellss = o .cellss }
+    removed : Taken-away (view ws) (view (t ++ drop treeWords ws)) r
+    removed = record { used = at .used; trimmed = subst (λ (m : Shape). Trimmed (view ws .tree) (suc (nodesLimit + r)) m) (sym (o .tree)) tr; places = o .places; sizes = o .sizes; cellss = o .cellss }
 
     gone-held : ¬ (Gone ≡ NotHeld)
     gone-held e = let z : _≡_ {A = ℕ} 0 1 = cc in omega arith

@@ -6,6 +6,7 @@ use Prim.Native.Nat.{ℕ, _+_, _*_}
 use native.Mathlib.Omega.{arith}
 use lib.ListN.{length, getD, take, drop, length-take, length-drop}
 use borrow.Rule.Slice.PartMut.{putMid}
+use Rattle.layout.specs.Layout.{treeWords, signsAt, signWords, placesAt, placeWords, termWords, recordWords, recordsAt, termsAt, bookWords}
 use Rattle.bits.specs.Packed.{fields}
 use Rattle.tree.specs.Words.{shape}
 use Rattle.tree.specs.Shape.{Shape}
@@ -14,12 +15,12 @@ use Rattle.book.specs.Memory.{View, view, rulesOf, Right}
 use Rattle.change.specs.Promises.{Adds, TakesLowest}
 use Rattle.book.specs.Parts.{Elsewhere, window, one-part}
 
-pub signs-only : {ws ws′ : List ℕ} → Elsewhere ws ws′ 4681 2305 → view ws′ ≡ view ws
+pub signs-only : {ws ws′ : List ℕ} → Elsewhere ws ws′ signsAt signWords → view ws′ ≡ view ws
 signs-only {ws} {ws′} e =
-    ap (λ (t : List ℕ). made (shape t) (view ws′ .place) (view ws′ .size) (view ws′ .cells)) (window e 0 4681 (inl (omega arith)))
-    ∙ ap (λ (p : List ℕ). made (view ws .tree) (λ k. getD (fields p) k 0) (view ws′ .size) (view ws′ .cells)) (window e 6986 1024 (inr (omega arith)))
-    ∙ ap (λ (s : ℕ → ℕ). made (view ws .tree) (view ws .place) s (view ws′ .cells)) (fun-ext (λ r. e .kept (8010 + 9 * r) (inr (omega arith))))
-    ∙ ap (λ (c : ℕ → List ℕ). made (view ws .tree) (view ws .place) (view ws .size) c) (fun-ext (λ r. ap fields (window e (8011 + 9 * r) 8 (inr (omega arith)))))
+    ap (λ (t : List ℕ). made (shape t) (view ws′ .place) (view ws′ .size) (view ws′ .cells)) (window e 0 treeWords (inl (omega arith)))
+    ∙ ap (λ (p : List ℕ). made (view ws .tree) (λ k. getD (fields p) k 0) (view ws′ .size) (view ws′ .cells)) (window e placesAt placeWords (inr (omega arith)))
+    ∙ ap (λ (s : ℕ → ℕ). made (view ws .tree) (view ws .place) s (view ws′ .cells)) (fun-ext (λ r. e .kept (recordsAt + recordWords * r) (inr (omega arith))))
+    ∙ ap (λ (c : ℕ → List ℕ). made (view ws .tree) (view ws .place) (view ws .size) c) (fun-ext (λ r. ap fields (window e (termsAt + recordWords * r) termWords (inr (omega arith)))))
   where
     made : Shape → (ℕ → ℕ) → (ℕ → ℕ) → (ℕ → List ℕ) → View
     made t p s c = record { tree = t; place = p; size = s; cells = c }
@@ -39,5 +40,5 @@ with-signs {ws} {ws₁} {ws₂} {k} {t} a e l = record {
 }
 
 -- the signs are written
-pub written : (ws p : List ℕ) → length ws ≡ 12618 → length p ≡ length (take 2305 (drop 4681 ws)) → Elsewhere ws (putMid 4681 2305 ws p) 4681 2305
-written ws p size e = one-part 4681 2305 ws p (omega arith) (omega (arith, length-take 2305 (drop 4681 ws), length-drop 4681 ws))
+pub written : (ws p : List ℕ) → length ws ≡ bookWords → length p ≡ length (take signWords (drop signsAt ws)) → Elsewhere ws (putMid signsAt signWords ws p) signsAt signWords
+written ws p size e = one-part signsAt signWords ws p (omega arith) (omega (arith, length-take signWords (drop signsAt ws), length-drop signsAt ws))

@@ -10,6 +10,7 @@ use borrow.Author.Tests.{lt-ltb, eq-eqb, ne-eqb}
 use lib.Dec.{eqb, ltb}
 use lib.ListN.{length, getD, take, replicate}
 use lib.Seq.{take-at, getD-append-add, take-length}
+use Rattle.layout.specs.Layout.{ruleNumbers, nodesLimit, rulesLimit, lastLink}
 use Rattle.term.specs.Beginnings.{both}
 use Rattle.term.specs.Counting.{true≢false}
 use Rattle.term.specs.Reading.{readTerm}
@@ -43,7 +44,7 @@ module _ {v v′ : View} {j : ℕ} (s : SameAt v v′ j) where
 
   same-record : taken v j ≡ true → v′ .place (number v j) ≡ v .place (number v j) → Recorded v j → Recorded v′ j
   same-record u p c = record {
-    low = subst (λ (k : ℕ). k < 4096) (sym (s .numbers u)) (c .low);
+    low = subst (λ (k : ℕ). k < ruleNumbers) (sym (s .numbers u)) (c .low);
     found = ap (v′ .place) (s .numbers u) ∙ p ∙ c .found;
     whole = ap readTerm (s .cells) ∙ c .whole ∙ ap Whole (sym (s .size));
     clean = λ i h. ap (λ (l : List ℕ). getD l i 0) (s .cells) ∙ c .clean i (subst (λ (n : ℕ). n ≤ i) (s .size) h);
@@ -51,7 +52,7 @@ module _ {v v′ : View} {j : ℕ} (s : SameAt v v′ j) where
 
 -- a rule is held under k, by what stands at its place
 holding : View → ℕ → ℕ → Held
-holding v k r = pickHeld (both (ltb r 512) (both (taken v r) (eqb (number v r) k))) (rule (term v r)) nothing
+holding v k r = pickHeld (both (ltb r rulesLimit) (both (taken v r) (eqb (number v r) k))) (rule (term v r)) nothing
 
 both-false : (a : Bool) → both a false ≡ false
 both-false true = refl
@@ -61,19 +62,19 @@ not-taken : (v : View) (k r : ℕ) → taken v r ≡ false → holding v k r ≡
 unfolding holding
 not-taken v k r e =
     ap (λ (b : Bool). pickHeld b (rule (term v r)) nothing)
-    (ap (λ (x : Bool). both (ltb r 512) (both x (eqb (number v r) k))) e ∙ both-false (ltb r 512))
+    (ap (λ (x : Bool). both (ltb r rulesLimit) (both x (eqb (number v r) k))) e ∙ both-false (ltb r rulesLimit))
 
 not-number : (v : View) (k r : ℕ) → ¬ (number v r ≡ k) → holding v k r ≡ nothing
 unfolding holding
 not-number v k r n =
     ap (λ (b : Bool). pickHeld b (rule (term v r)) nothing)
-    (ap (λ (x : Bool). both (ltb r 512) (both (taken v r) x)) (ne-eqb (number v r) k n) ∙ ap (both (ltb r 512)) (both-false (taken v r)) ∙ both-false (ltb r 512))
+    (ap (λ (x : Bool). both (ltb r rulesLimit) (both (taken v r) x)) (ne-eqb (number v r) k n) ∙ ap (both (ltb r rulesLimit)) (both-false (taken v r)) ∙ both-false (ltb r rulesLimit))
 
-is-number : (v : View) (k r : ℕ) → r < 512 → taken v r ≡ true → number v r ≡ k → holding v k r ≡ rule (term v r)
+is-number : (v : View) (k r : ℕ) → r < rulesLimit → taken v r ≡ true → number v r ≡ k → holding v k r ≡ rule (term v r)
 unfolding holding
 is-number v k r l u n =
     ap (λ (b : Bool). pickHeld b (rule (term v r)) nothing)
-    (ap (λ (x : Bool). both x (both (taken v r) (eqb (number v r) k))) (lt-ltb r 512 l) ∙ ap (λ (x : Bool). both x (eqb (number v r) k)) u ∙ eq-eqb (number v r) k n)
+    (ap (λ (x : Bool). both x (both (taken v r) (eqb (number v r) k))) (lt-ltb r rulesLimit l) ∙ ap (λ (x : Bool). both x (eqb (number v r) k)) u ∙ eq-eqb (number v r) k n)
 
 same-holding : (v v′ : View) (k r : ℕ) → SameAt v v′ r → holding v′ k r ≡ holding v k r
 unfolding holding
@@ -81,19 +82,19 @@ same-holding v v′ k r s = go (taken v r) refl
   where
     go : (b : Bool) → taken v r ≡ b → holding v′ k r ≡ holding v k r
     go false e = not-taken v′ k r (s .used ∙ e) ∙ sym (not-taken v k r e)
-    go true e = ap₂ (λ (b : Bool) (t : List ℕ). pickHeld (both (ltb r 512) b) (rule t) nothing) (ap₂ both (s .used) (ap (λ (x : ℕ). eqb x k) (s .numbers e))) (same-term s)
+    go true e = ap₂ (λ (b : Bool) (t : List ℕ). pickHeld (both (ltb r rulesLimit) b) (rule t) nothing) (ap₂ both (s .used) (ap (λ (x : ℕ). eqb x k) (s .numbers e))) (same-term s)
 
 -- ---- one rule more
 
 -- The number k with the term t comes to the free place r, below the link p of its form's last node in the tree m.
 pub record Added (v v′ : View) (k r p : ℕ) (t : List ℕ) (m : Shape) : Type 0 where
-  pub low : k < 4096
+  pub low : k < ruleNumbers
   pub new : rulesOf v k ≡ nothing
-  pub place : r < 512
+  pub place : r < rulesLimit
   pub free : taken v r ≡ false
   pub whole : readTerm t ≡ Whole (length t)
   pub partly : Partly m (ends (leaves v)) p (reverse (formOf t))
-  pub rules-kept : (y : ℕ) → 4096 ≤ y → (m .used y ≡ v .tree .used y) × (m .cell y ≡ v .tree .cell y)
+  pub rules-kept : (y : ℕ) → nodesLimit ≤ y → (m .used y ≡ v .tree .used y) × (m .cell y ≡ v .tree .cell y)
   pub hung : Hung m (v′ .tree) p r k
   pub to-place : v′ .place k ≡ r
   pub places : (j : ℕ) → ¬ (j ≡ k) → v′ .place j ≡ v .place j
@@ -107,12 +108,12 @@ zeros zero i = refl
 zeros (suc n) zero = refl
 zeros (suc n) (suc i) = zeros n i
 
-module _ (v v′ : View) (k r p : ℕ) (t : List ℕ) (m : Shape) (small : (n : ℕ) → Used (v .tree) n → n < 4608) (right : Right v) (a : Added v v′ k r p t m) where
+module _ (v v′ : View) (k r p : ℕ) (t : List ℕ) (m : Shape) (small : (n : ℕ) → Used (v .tree) n → n < lastLink) (right : Right v) (a : Added v v′ k r p t m) where
   added-same : (j : ℕ) → ¬ (j ≡ r) → SameAt v v′ j
   added-same j d =
-      let e : ¬ (4096 + j ≡ 4096 + r) = λ q. d (omega arith) in
-      let q = a .rules-kept (4096 + j) (omega arith) in
-      record { used = a .hung .links .kept .used (4096 + j) e ∙ q .0; numbers = λ u. a .hung .links .kept .cell (4096 + j) e ∙ q .1; size = a .sizes j d; cells = a .cellss j d }
+      let e : ¬ (nodesLimit + j ≡ nodesLimit + r) = λ q. d (omega arith) in
+      let q = a .rules-kept (nodesLimit + j) (omega arith) in
+      record { used = a .hung .links .kept .used (nodesLimit + j) e ∙ q .0; numbers = λ u. a .hung .links .kept .cell (nodesLimit + j) e ∙ q .1; size = a .sizes j d; cells = a .cellss j d }
 
   added-taken : taken v′ r ≡ true
   added-taken = a .hung .links .now
@@ -135,7 +136,7 @@ module _ (v v′ : View) (k r p : ℕ) (t : List ℕ) (m : Shape) (small : (n : 
 
   new-record : Recorded v′ r
   new-record = record {
-    low = subst (λ (x : ℕ). x < 4096) (sym added-number) (a .low);
+    low = subst (λ (x : ℕ). x < ruleNumbers) (sym added-number) (a .low);
     found = ap (v′ .place) added-number ∙ a .to-place;
     whole = ap readTerm (a .cells .1 ∙ ap (λ (l : List ℕ). l ++ replicate (a .cells .0) 0) (sym (take-length t))) ∙ whole-alone t (replicate (a .cells .0) 0) (length t) (a .whole) ∙ ap Whole (sym (a .size));
     clean = λ i h. ap (λ (l : List ℕ). getD l i 0) (a .cells .1) ∙ past i (subst (λ (n : ℕ). n ≤ i) (a .size) h);
@@ -162,7 +163,7 @@ module _ (v v′ : View) (k r p : ℕ) (t : List ℕ) (m : Shape) (small : (n : 
       of : (y : End) → List·Memᴰ y (ends (leaves v′)) → (y ≡ endAt v′ r) ⊎ List·Memᴰ y (ends (leaves v))
       of y i = go (of-ends v′ (taken v′) i)
         where
-          go : (j : ℕ) × (taken v′ j ≡ true) × (j < 512) × (endAt v′ j ≡ y) → (y ≡ endAt v′ r) ⊎ List·Memᴰ y (ends (leaves v))
+          go : (j : ℕ) × (taken v′ j ≡ true) × (j < rulesLimit) × (endAt v′ j ≡ y) → (y ≡ endAt v′ r) ⊎ List·Memᴰ y (ends (leaves v))
           go q = by (ℕ-discrete (q .0) r)
             where
               by : Dec (q .0 ≡ r) → (y ≡ endAt v′ r) ⊎ List·Memᴰ y (ends (leaves v))
@@ -181,7 +182,7 @@ module _ (v v′ : View) (k r p : ℕ) (t : List ℕ) (m : Shape) (small : (n : 
   added-tree : Passes (v′ .tree) (ends (leaves v′))
   added-tree =
       ended-new
-      (link-partly m (v′ .tree) (ends (leaves v)) (a .hung .at) k (4096 + r) (reverse (formOf t))
+      (link-partly m (v′ .tree) (ends (leaves v)) (a .hung .at) k (nodesLimit + r) (reverse (formOf t))
       (subst (λ (z : ℕ). Partly m (ends (leaves v)) z (reverse (formOf t))) (sym (a .hung .below)) (a .partly)) (a .hung .sorted) (a .hung .links))
       (endAt v′ r) refl row joins
     where
@@ -215,14 +216,14 @@ module _ (v v′ : View) (k r p : ℕ) (t : List ℕ) (m : Shape) (small : (n : 
 -- The rule at the place r goes from the tree, with the nodes that only it needs; all else stays.
 pub record Removed (v v′ : View) (r : ℕ) : Type 0 where
   pub used : taken v r ≡ true
-  pub trimmed : Trimmed (v .tree) (suc (4096 + r)) (v′ .tree)
+  pub trimmed : Trimmed (v .tree) (suc (nodesLimit + r)) (v′ .tree)
   pub places : (j : ℕ) → v′ .place j ≡ v .place j
   pub sizes : (j : ℕ) → v′ .size j ≡ v .size j
   pub cellss : (j : ℕ) → v′ .cells j ≡ v .cells j
 
-module _ (v v′ : View) (r : ℕ) (small : (n : ℕ) → Used (v .tree) n → n < 4608) (right : Right v) (a : Removed v v′ r) where
-  low : (j : ℕ) → taken v j ≡ true → j < 512
-  low j u = let l = small (4096 + j) u in omega arith
+module _ (v v′ : View) (r : ℕ) (small : (n : ℕ) → Used (v .tree) n → n < lastLink) (right : Right v) (a : Removed v v′ r) where
+  low : (j : ℕ) → taken v j ≡ true → j < rulesLimit
+  low j u = let l = small (nodesLimit + j) u in omega arith
 
   hang : Hanging (v .tree) (leaves v)
   hang = hanging v small right
@@ -243,7 +244,7 @@ module _ (v v′ : View) (r : ℕ) (small : (n : ℕ) → Used (v .tree) n → n
   to-others j u d = ap₂ both u (ap not (ne-eqb j r d))
 
   rest : List End
-  rest = ends (map (leaf v) (listed others 512))
+  rest = ends (map (leaf v) (listed others rulesLimit))
 
   leaves-joins : Joins (endAt v r) rest (ends (leaves v))
   unfolding rest
@@ -252,27 +253,27 @@ module _ (v v′ : View) (r : ℕ) (small : (n : ℕ) → Used (v .tree) n → n
       of : (y : End) → List·Memᴰ y (ends (leaves v)) → (y ≡ endAt v r) ⊎ List·Memᴰ y rest
       of y i = let q = of-ends v (taken v) i in go q (ℕ-discrete (q .0) r)
         where
-          go : (q : (j : ℕ) × (taken v j ≡ true) × (j < 512) × (endAt v j ≡ y)) → Dec (q .0 ≡ r) → (y ≡ endAt v r) ⊎ List·Memᴰ y rest
+          go : (q : (j : ℕ) × (taken v j ≡ true) × (j < rulesLimit) × (endAt v j ≡ y)) → Dec (q .0 ≡ r) → (y ≡ endAt v r) ⊎ List·Memᴰ y rest
           go q (yes e) = inl (sym (q .3) ∙ ap (endAt v) e)
           go q (no e) = inr (Memᴰ·cast (sym (q .3)) (to-ends v others (q .0) (to-others (q .0) (q .1) e) (q .2)))
 
       kept : (y : End) → List·Memᴰ y rest → List·Memᴰ y (ends (leaves v))
       kept y i = let q = of-ends v others i in Memᴰ·cast (sym (q .3)) (to-ends v (taken v) (q .0) (of-others (q .0) (q .1) .0) (q .2))
 
-  left : Left (v .tree) rest (suc (4096 + r))
+  left : Left (v .tree) rest (suc (nodesLimit + r))
   unfolding rest
   left = left-of (right .tree) (rows-free hang) (endAt v r) leaves-joins
-      (λ y i e. let q = of-ends v others i in of-others (q .0) (q .1) .1 (let d : 4096 + q .0 ≡ 4096 + r = ap (λ (z : End). z .last) (q .3) ∙ e in omega arith))
+      (λ y i e. let q = of-ends v others i in of-others (q .0) (q .1) .1 (let d : nodesLimit + q .0 ≡ nodesLimit + r = ap (λ (z : End). z .last) (q .3) ∙ e in omega arith))
 
   -- no other rule lies on the way up from this one
-  off : (j : ℕ) → ¬ (j ≡ r) → ¬ (On (v .tree) (4096 + j) (suc (4096 + r)))
+  off : (j : ℕ) → ¬ (j ≡ r) → ¬ (On (v .tree) (nodesLimit + j) (suc (nodesLimit + r)))
   off j d o =
       let u : taken v j ≡ true = up-used (on-row o (right .tree .ways (endAt v r) (leaves-joins .joined)) .up) in
       let e = end-on (right .tree) (rows-free hang) (endAt v j) (endAt v r) (to-ends v (taken v) j u (low j u)) (leaves-joins .joined) o in
       d (omega arith)
 
   removed-same : (j : ℕ) → ¬ (j ≡ r) → SameAt v v′ j
-  removed-same j d = let q = trimmed-kept (a .trimmed) left (4096 + j) (off j d) in record { used = q .0; numbers = λ u. q .1; size = a .sizes j; cells = a .cellss j }
+  removed-same j d = let q = trimmed-kept (a .trimmed) left (nodesLimit + j) (off j d) in record { used = q .0; numbers = λ u. q .1; size = a .sizes j; cells = a .cellss j }
 
   removed-gone : taken v′ r ≡ false
   removed-gone = trimmed-gone (a .trimmed) left (end-childless (right .tree) (rows-free hang) (endAt v r) (leaves-joins .joined))

@@ -4,6 +4,7 @@ use mathlib.Core.List.{List, _++_}
 use mathlib.Core.Bool.{true, false}
 use Prim.Native.Nat.{ℕ, _-_, _<_}
 use lib.ListN.{length, replicate}
+use Rattle.layout.specs.Layout.{nodesLimit}
 use Rattle.tree.specs.Shape.{Shape}
 use Rattle.book.specs.declared.Added.{Added}
 use Rattle.book.specs.declared.Added.the-variants.{Taken}
@@ -14,12 +15,12 @@ use Rattle.book.specs.Memory.{View, view, Passing, rulesIn}
 
 -- The nodes that come into use are the free ones of lowest number, and none goes out of use.
 pub record TakesLowest (m m′ : Shape) : Type 0 where
-  pub kept : (n : ℕ) → n < 4096 → m .used n ≡ true → m′ .used n ≡ true
-  pub lowest : (n : ℕ) → n < 4096 → m .used n ≡ false → m′ .used n ≡ true → (j : ℕ) → j < n → m′ .used j ≡ true
+  pub kept : (n : ℕ) → n < nodesLimit → m .used n ≡ true → m′ .used n ≡ true
+  pub lowest : (n : ℕ) → n < nodesLimit → m .used n ≡ false → m′ .used n ≡ true → (j : ℕ) → j < n → m′ .used j ≡ true
 
 -- No node comes into use.
 pub record TakesNone (m m′ : Shape) : Type 0 where
-  pub were : (n : ℕ) → n < 4096 → m′ .used n ≡ true → m .used n ≡ true
+  pub were : (n : ℕ) → n < nodesLimit → m′ .used n ≡ true → m .used n ≡ true
 
 -- An add answers as the rules judge it. Where the rule is taken the book passes with it; where it is refused nothing has changed.
 pub record Adds (ws ws′ : List ℕ) (k : ℕ) (t : List ℕ) (r : Added) : Type 0 where

@@ -16,6 +16,7 @@ use native.Mathlib.Omega.{arith}
 use native.Mathlib.Decide.{ℕ-discrete}
 use lib.ListN.{length, getD, take, drop}
 use lib.Seq.{take-at}
+use Rattle.layout.specs.Layout.{bookWords}
 use Rattle.term.specs.Questions.{instances, generalisations}
 use Rattle.term.specs.declared.reading.Fault.the-variants.{TooLong, CutShort, FieldSet, AboveFifteen, AboveCount}
 use Rattle.names.specs.Name.{IsName}
@@ -57,7 +58,7 @@ refusal-1 call (ran p r) = ((λ e. absurd (never (batch-ends (rulesIn (call .boo
 refusal-1 call (turned-away f t) = ((λ e. f, λ _. t .stop-is), λ _. t)
 
 -- .. making an empty book: 1 on a wrong length, with the memory unchanged; else 0
-pub refusal-1-empty : {ws ws′ : List ℕ} {r : ℕ} → Empties ws ws′ r → Exactly (r ≡ 1) (¬ (length ws ≡ 12618)) (ws′ ≡ ws)
+pub refusal-1-empty : {ws ws′ : List ℕ} {r : ℕ} → Empties ws ws′ r → Exactly (r ≡ 1) (¬ (length ws ≡ bookWords)) (ws′ ≡ ws)
 refusal-1-empty {ws} {ws′} {r} x = (((λ e f. absurd (let z = x .made f .0 in omega arith)), λ f. x .refused f .0), λ f. x .refused f .1)
 
 -- .. the check alone, which writes nothing
@@ -259,9 +260,9 @@ pub data History : List ℕ → Type 0 where
 
 -- Such memory passes.
 pub history-passes : {ws : List ℕ} → History ws → Passing ws
-history-passes (emptied {before} {ws} e) = go (ℕ-discrete (length before) 12618)
+history-passes (emptied {before} {ws} e) = go (ℕ-discrete (length before) bookWords)
   where
-    go : Dec (length before ≡ 12618) → Passing ws
+    go : Dec (length before ≡ bookWords) → Passing ws
     go (yes l) = subst Passing (sym (e .made l .1)) empty-passes
     go (no l) = absurd (let z = e .refused l .0 in omega arith)
 history-passes (batch {ws} {ws′} h r) = passing r (history-passes h) .book .passes
@@ -278,7 +279,7 @@ demand-3-answers h r = passing r (history-passes h)
 -- ==== One outcome: two outcomes that a promise allows are equal
 
 -- `cf_book_words`
-pub words-once : (r s : ℕ) → r ≡ 12618 → s ≡ 12618 → r ≡ s
+pub words-once : (r s : ℕ) → r ≡ bookWords → s ≡ bookWords → r ≡ s
 words-once r s e f = e ∙ sym f
 
 -- `cf_book_empty`

@@ -6,6 +6,7 @@ use mathlib.Core.Bool.{Bool, true}
 use Prim.Native.Nat.{ℕ, zero, suc, _+_, _-_, _≤_, _<_}
 use native.Mathlib.Omega.{arith}
 use lib.ListN.{length, replicate, drop}
+use Rattle.layout.specs.Layout.{bookWords}
 use Rattle.term.specs.Reading.{readTerm, readFrom, takes}
 use Rattle.term.specs.Beginnings.{nodes}
 use Rattle.tree.specs.Tally.{bit, tally}
@@ -25,7 +26,7 @@ use Rattle.claggyfoot.specs.NewNodes.{InUse, freeBelow, one-more, which-
 
 -- The memory of an empty book.
 abbrev pub emptyBook : List ℕ
-emptyBook = replicate 12618 0
+emptyBook = replicate bookWords 0
 
 -- What a batch on it comes to.
 came : {ws′ cells out out′ : List ℕ} {stop used n : ℕ} → Runs emptyBook ws′ cells out out′ stop used n → Came (run noRules cells (length out)) emptyBook ws′ out out′ stop used n

@@ -1,5 +1,6 @@
 // What C and Rust link. Each function wraps one call of the crates below it, and promises what that call promises, in numbers.
 ghost use mathlib.Core.Path.{_≡_};
+ghost use Rattle.layout.specs.Layout.{bookWords};
 ghost use Rattle.book.specs.Promises.{Empties};
 ghost use Rattle.batch.specs.Promises.{Runs};
 ghost use Rattle.claggyfoot.specs.Numbers.{EntersNumbers, StandsNumbers, ChecksNumber};
@@ -62,7 +63,7 @@ pub extern "C" fn cf_name_of(table: &[u8], number: u64) -> NamePlace
 // The length of a book's memory in words.
 #[no_mangle]
 pub extern "C" fn cf_book_words() -> u64
-    ensures { λ r. ⌜ r ≡ 12618 ⌝ }
+    ensures { λ r. ⌜ r ≡ bookWords ⌝ }
 {
     wide(Book::WORDS)
 }

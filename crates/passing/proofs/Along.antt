@@ -6,6 +6,7 @@ use Prim.Native.Nat.{ℕ, zero, suc, _+_, _-_, _%_, _≤_, _<_}
 use native.Mathlib.Omega.{arith}
 use native.Mathlib.Decide.{decLt}
 use lib.ListN.{length, getD, take}
+use Rattle.layout.specs.Layout.{ruleNumbers, nodesLimit, linksAt, firstRule, rulesAt, lastLink, treeWords}
 use Rattle.term.specs.Counting.{true≢false}
 use Rattle.tree.specs.Shape.{after, Used, to, Fits}
 use Rattle.tree.specs.Rows.{end-childless}
@@ -26,7 +27,7 @@ pub record Ruling (ws left₀ left way ks stack : List ℕ) (x p low depth top :
   pub sizes : Sizes ws left way ks stack
   pub at : AtPlace ws left way ks stack x p low depth top
   pub whole : wants (at .row) ≡ 0
-  pub fewer : tally (marked left) 4608 ≤ tally (marked left₀) 4608
+  pub fewer : tally (marked left) lastLink ≤ tally (marked left₀) lastLink
 
 pub rules-start : (ws left way ks stack : List ℕ) (x p low depth top : ℕ) → Sizes ws left way ks stack → AtPlace ws left way ks stack x p low depth top → getD ks depth 0 % 65536 ≡ 0
     → Ruling ws left left way ks stack x p low depth top
@@ -41,45 +42,45 @@ module _ (ws left₀ left way ks stack : List ℕ) (x p low depth top : ℕ) (i 
   -- ---- where all is found
 
   module _ (f : Found ws) where
-    small : (n : ℕ) → Used (view ws .tree) n → n < 4608
+    small : (n : ℕ) → Used (view ws .tree) n → n < lastLink
     small = nodes-low ws (i .sizes .words)
 
-    nothing-below : (k : ℕ) → taken (view ws) k ≡ true → view ws .tree .first (suc (4096 + k)) ≡ 0
+    nothing-below : (k : ℕ) → taken (view ws) k ≡ true → view ws .tree .first (suc (nodesLimit + k)) ≡ 0
     nothing-below k u =
         let r = ended-right (view ws) small f in
         let h = hanging (view ws) small r in
         end-childless (h .passes) (rows-free h) (endOf (leaf (view ws) k)) (Memᴰ·map endOf (taken-leaf (view ws) small r k u))
 
     record Comes : Type 0 where
-      asks : AskedRule left x p low (getD ws (72 + x) 0)
-      hangs : Hangs (view ws) (x - 4097) (i .at .row)
+      asks : AskedRule left x p low (getD ws (linksAt + x) 0)
+      hangs : Hangs (view ws) (x - firstRule) (i .at .row)
 
     comes : Comes
     comes = go x refl
       where
         go : (l : ℕ) → x ≡ l → Comes
         go zero e = absurd (no-dead-end ws left way ks stack x p low depth top (i .sizes) (i .at) f e)
-        go (suc n) e = by (decLt n 4096)
+        go (suc n) e = by (decLt n nodesLimit)
           where
             q : Fits (view ws .tree) (i .at .place) n × (marked left n ≡ true) × Told (view ws) n (view ws .tree .cell n ∷ i .at .row)
             q = meets ws left way ks stack x p low depth top (i .sizes) (i .at) f n (i .at .leads ∙ e)
 
-            is : word (take 4681 ws) (suc n) ≡ getD ws (72 + x) 0
-            is = node-word ws n (small n (q .0 .used)) ∙ ap (λ (k : ℕ). getD ws (72 + k) 0) (sym e)
+            is : word (take treeWords ws) (suc n) ≡ getD ws (linksAt + x) 0
+            is = node-word ws n (small n (q .0 .used)) ∙ ap (λ (k : ℕ). getD ws (linksAt + k) 0) (sym e)
 
-            by : Dec (n < 4096) → Comes
+            by : Dec (n < nodesLimit) → Comes
             by (yes l) = absurd (q .2 .node l .wanting (i .whole))
             by (no l) =
-                let d : n ≡ 4096 + (x - 4097) = omega arith in record {
+                let d : n ≡ nodesLimit + (x - firstRule) = omega arith in record {
                   asks = record {
                     rule = omega arith;
                     most = let k = small n (q .0 .used) in omega arith;
-                    leaf = ap firstOf (sym is) ∙ ap (λ (k : ℕ). view ws .tree .first (suc k)) d ∙ nothing-below (x - 4097) (ap (view ws .tree .used) (sym d) ∙ q .0 .used);
+                    leaf = ap firstOf (sym is) ∙ ap (λ (k : ℕ). view ws .tree .first (suc k)) d ∙ nothing-below (x - firstRule) (ap (view ws .tree .used) (sym d) ∙ q .0 .used);
                     under = ap parentOf (sym is) ∙ q .0 .under ∙ i .at .under;
                     above = subst (λ (z : ℕ). low ≤ cellOf z) is (subst (λ (z : ℕ). z ≤ view ws .tree .cell n) (i .at .above) (q .0 .above));
                     was = ap (marked left) (let b : x - 1 ≡ n = omega arith in b) ∙ q .1;
                   };
-                  hangs = q .2 .rule (x - 4097) d;
+                  hangs = q .2 .rule (x - firstRule) d;
                 }
 
   refusal : (left′ : List ℕ) → ¬ (Found ws) → Ruled ws left₀ left′ way ks stack depth top false
@@ -88,8 +89,8 @@ module _ (ws left₀ left way ks stack : List ℕ) (x p low depth top : ℕ) (i 
   pub no-rule : (left′ : List ℕ) (w : ℕ) (r : Bool) → RuleEntered ws left left′ x p low w r → r ≡ false → Ruled ws left₀ left′ way ks stack depth top false
   no-rule left′ w r e q = refusal left′ (λ f. e .no q (comes f .asks))
 
-  pub other-rule : (left′ : List ℕ) (r : Bool) → RuleDecided ws way (x - 4097) depth r → r ≡ false → Ruled ws left₀ left′ way ks stack depth top false
-  other-rule left′ r d q = refusal left′ (λ f. d .no q (hangs-rule ws way ks (i .at .row) (x - 4097) depth (i .at .kept) (i .at .cells) (i .at .deep) (i .at .short) (comes f .hangs)))
+  pub other-rule : (left′ : List ℕ) (r : Bool) → RuleDecided ws way (x - firstRule) depth r → r ≡ false → Ruled ws left₀ left′ way ks stack depth top false
+  other-rule left′ r d q = refusal left′ (λ f. d .no q (hangs-rule ws way ks (i .at .row) (x - firstRule) depth (i .at .kept) (i .at .cells) (i .at .deep) (i .at .short) (comes f .hangs)))
 
   -- ---- one rule along
 
@@ -97,29 +98,29 @@ module _ (ws left₀ left way ks stack : List ℕ) (x p low depth top : ℕ) (i 
     pub rule-asked : AskedRule left x p low w
     rule-asked = e .yes t
 
-    pub rule-word : (c : ℕ) → c ≡ cellOf w → c ≡ cellOf (getD ws (4169 + (x - 4097)) 0)
-    rule-word c q = let l = rule-asked .rule in let d : 72 + x ≡ 4169 + (x - 4097) = omega arith in q ∙ ap cellOf (e .word t) ∙ ap (λ (k : ℕ). cellOf (getD ws k 0)) d
+    pub rule-word : (c : ℕ) → c ≡ cellOf w → c ≡ cellOf (getD ws (rulesAt + (x - firstRule)) 0)
+    rule-word c q = let l = rule-asked .rule in let d : linksAt + x ≡ rulesAt + (x - firstRule) = omega arith in q ∙ ap cellOf (e .word t) ∙ ap (λ (k : ℕ). cellOf (getD ws k 0)) d
 
-    module _ (b : Bool) (d : RuleDecided ws way (x - 4097) depth b) (tb : b ≡ true) where
-      right : RuleAt ws way (x - 4097) depth
+    module _ (b : Bool) (d : RuleDecided ws way (x - firstRule) depth b) (tb : b ≡ true) where
+      right : RuleAt ws way (x - firstRule) depth
       right = d .yes tb ks (i .at .row) (i .at .kept) (i .at .cells) (i .at .deep) (i .whole)
 
-      hangs : Hangs (view ws) (x - 4097) (i .at .row)
-      hangs = rule-hangs ws way ks (i .at .row) (x - 4097) depth (i .at .kept) (i .at .cells) (i .at .deep) (i .at .short) right
+      hangs : Hangs (view ws) (x - firstRule) (i .at .row)
+      hangs = rule-hangs ws way ks (i .at .row) (x - firstRule) depth (i .at .kept) (i .at .cells) (i .at .deep) (i .at .short) right
 
-      pub rule-low : (c : ℕ) → c ≡ cellOf w → c < 4096
-      rule-low c q = subst (λ (z : ℕ). z < 4096) (sym (rule-word c q ∙ rule-number ws (x - 4097) (let k = rule-asked .most in omega arith))) (right .low)
+      pub rule-low : (c : ℕ) → c ≡ cellOf w → c < ruleNumbers
+      rule-low c q = subst (λ (z : ℕ). z < ruleNumbers) (sym (rule-word c q ∙ rule-number ws (x - firstRule) (let k = rule-asked .most in omega arith))) (right .low)
 
       up-one : suc (x - 1) ≡ x
       up-one = let l = rule-asked .rule in omega arith
 
-      is : word (take 4681 ws) (suc (x - 1)) ≡ w
-      is = node-word ws (x - 1) (let l = rule-asked .rule in let k = rule-asked .most in omega arith) ∙ ap (λ (k : ℕ). getD ws (72 + k) 0) up-one ∙ sym (e .word t)
+      is : word (take treeWords ws) (suc (x - 1)) ≡ w
+      is = node-word ws (x - 1) (let l = rule-asked .rule in let k = rule-asked .most in omega arith) ∙ ap (λ (k : ℕ). getD ws (linksAt + k) 0) up-one ∙ sym (e .word t)
 
       tell : Told (view ws) (x - 1) (view ws .tree .cell (x - 1) ∷ i .at .row)
       tell = record {
         node = λ l. absurd (let k = rule-asked .rule in omega arith);
-        rule = λ k q. let z : x - 4097 ≡ k = let l = rule-asked .rule in omega arith in subst (λ (y : ℕ). Hangs (view ws) y (i .at .row)) z hangs;
+        rule = λ k q. let z : x - firstRule ≡ k = let l = rule-asked .rule in omega arith in subst (λ (y : ℕ). Hangs (view ws) y (i .at .row)) z hangs;
       }
 
       standing : Standing (view ws .tree) Bare (Told (view ws)) (after (x - 1)) (i .at .row) (i .at .stops) (marked left′)
@@ -128,8 +129,8 @@ module _ (ws left₀ left way ks stack : List ℕ) (x p low depth top : ℕ) (i 
           (subst (λ (z : ℕ). z ≤ view ws .tree .cell (x - 1)) (sym (i .at .above)) (subst (λ (z : ℕ). low ≤ cellOf z) (sym is) (rule-asked .above))) tell
           (marked left′) (e .gone t) (e .others t) (ap firstOf is ∙ rule-asked .leaf) (let l = rule-asked .rule in omega arith)
 
-      pub one-less : tally (marked left) 4608 ≡ suc (tally (marked left′) 4608)
-      one-less = tally-more (marked left′) (marked left) (x - 1) 4608 (let q = rule-asked .rule in let l = rule-asked .most in omega arith) (e .gone t) (rule-asked .was) (λ y k. sym (e .others t y k))
+      pub one-less : tally (marked left) lastLink ≡ suc (tally (marked left′) lastLink)
+      one-less = tally-more (marked left′) (marked left) (x - 1) lastLink (let q = rule-asked .rule in let l = rule-asked .most in omega arith) (e .gone t) (rule-asked .was) (λ y k. sym (e .others t y k))
 
       pub rules-on : (x′ c : ℕ) → length left′ ≡ length left → c ≡ cellOf w → x′ ≡ nextOf w → ¬ (x′ ≡ 0) → Ruling ws left₀ left′ way ks stack x′ p (c + 1) depth top
       rules-on x′ c ll ec ex z = record {

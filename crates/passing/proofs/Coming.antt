@@ -7,6 +7,7 @@ use native.Mathlib.Omega.{arith}
 use borrow.Author.Tests.{lt-ltb, le-ltb}
 use lib.Dec.{eqb}
 use lib.ListN.{length, getD, set}
+use Rattle.layout.specs.Layout.{nodesLimit, mapWords, linksAt, lastLink}
 use Rattle.bits.specs.Packed.{bits}
 use Rattle.term.specs.Counting.{true≢false}
 use Rattle.tree.specs.Tally.{marked}
@@ -34,7 +35,7 @@ module _ (left : List ℕ) (w n p low : ℕ) where
   pub not-left : (b : Bool) → b ≡ eqb (getD (bits left) n 0) 1 → b ≡ false → Come left left w n p low false
   not-left b e h = stays (λ a c m. true≢false (e ∙ m) h)
 
-  pub came : (left′ : List ℕ) (q c : ℕ) (b : Bool) → length left ≡ 72 → n < 4608 → q ≡ parentOf w → q ≡ p → c ≡ cellOf w → low ≤ c
+  pub came : (left′ : List ℕ) (q c : ℕ) (b : Bool) → length left ≡ mapWords → n < lastLink → q ≡ parentOf w → q ≡ p → c ≡ cellOf w → low ≤ c
       → b ≡ eqb (getD (bits left) n 0) 1 → b ≡ true → bits left′ ≡ set (bits left) n 0 → Come left left′ w n p low true
   came left′ q c b long h eq ep ec l eb t e = record {
     under = λ r. sym eq ∙ ep;
@@ -64,7 +65,7 @@ cell-numbered c known l k h = (sym (ap (λ (b : Bool). pickCell b c (c + known))
 -- ---- a node of forms
 
 module _ (ws left : List ℕ) (x p low depth : ℕ) where
-  pub refuses : (left′ : List ℕ) (w : ℕ) (r : Bool) → r ≡ false → ¬ (Asked left x p low depth (getD ws (72 + x) 0)) → Entered ws left left′ x p low depth w r
+  pub refuses : (left′ : List ℕ) (w : ℕ) (r : Bool) → r ≡ false → ¬ (Asked left x p low depth (getD ws (linksAt + x) 0)) → Entered ws left left′ x p low depth w r
   refuses left′ w r f n = record {
     yes = λ q. absurd (true≢false q f);
     word = λ q. absurd (true≢false q f);
@@ -73,13 +74,13 @@ module _ (ws left : List ℕ) (x p low depth : ℕ) where
     no = λ q. n;
   }
 
-  pub not-come : (left′ : List ℕ) (w n : ℕ) (r : Bool) → n ≡ x - 1 → w ≡ getD ws (72 + x) 0 → Come left left′ w n p low r → r ≡ false → ¬ (Asked left x p low depth (getD ws (72 + x) 0))
+  pub not-come : (left′ : List ℕ) (w n : ℕ) (r : Bool) → n ≡ x - 1 → w ≡ getD ws (linksAt + x) 0 → Come left left′ w n p low r → r ≡ false → ¬ (Asked left x p low depth (getD ws (linksAt + x) 0))
   not-come left′ w n r en ew c f a = c .no f (ap parentOf ew ∙ a .under) (low-enough ew (a .above)) (ap (marked left) en ∙ a .was)
     where
       low-enough : {u v : ℕ} → u ≡ v → low ≤ cellOf v → low ≤ cellOf u
       low-enough e h = subst (λ (z : ℕ). low ≤ cellOf z) (sym e) h
 
-  pub enters : (left′ : List ℕ) (w n : ℕ) (r : Bool) → n ≡ x - 1 → w ≡ getD ws (72 + x) 0 → Come left left′ w n p low r → r ≡ true → ¬ (x ≡ 0) → x ≤ 4096 → depth < 32 → (c : ℕ) → c ≡ cellOf w → c ≤ 32768
+  pub enters : (left′ : List ℕ) (w n : ℕ) (r : Bool) → n ≡ x - 1 → w ≡ getD ws (linksAt + x) 0 → Come left left′ w n p low r → r ≡ true → ¬ (x ≡ 0) → x ≤ nodesLimit → depth < 32 → (c : ℕ) → c ≡ cellOf w → c ≤ 32768
       → Entered ws left left′ x p low depth w true
   enters left′ w n r en ew c t a b d v ev h = record {
     yes = λ q. record {
@@ -100,7 +101,7 @@ module _ (ws left : List ℕ) (x p low depth : ℕ) where
 -- ---- a rule
 
 module _ (ws left : List ℕ) (x p low : ℕ) where
-  pub rule-refused : (left′ : List ℕ) (w : ℕ) (r : Bool) → r ≡ false → ¬ (AskedRule left x p low (getD ws (72 + x) 0)) → RuleEntered ws left left′ x p low w r
+  pub rule-refused : (left′ : List ℕ) (w : ℕ) (r : Bool) → r ≡ false → ¬ (AskedRule left x p low (getD ws (linksAt + x) 0)) → RuleEntered ws left left′ x p low w r
   rule-refused left′ w r f n = record {
     yes = λ q. absurd (true≢false q f);
     word = λ q. absurd (true≢false q f);
@@ -109,10 +110,10 @@ module _ (ws left : List ℕ) (x p low : ℕ) where
     no = λ q. n;
   }
 
-  pub rule-not-come : (left′ : List ℕ) (w n : ℕ) (r : Bool) → n ≡ x - 1 → w ≡ getD ws (72 + x) 0 → Come left left′ w n p low r → r ≡ false → ¬ (AskedRule left x p low (getD ws (72 + x) 0))
+  pub rule-not-come : (left′ : List ℕ) (w n : ℕ) (r : Bool) → n ≡ x - 1 → w ≡ getD ws (linksAt + x) 0 → Come left left′ w n p low r → r ≡ false → ¬ (AskedRule left x p low (getD ws (linksAt + x) 0))
   rule-not-come left′ w n r en ew c f a = c .no f (ap parentOf ew ∙ a .under) (subst (λ (z : ℕ). low ≤ cellOf z) (sym ew) (a .above)) (ap (marked left) en ∙ a .was)
 
-  pub rule-enters : (left′ : List ℕ) (w n : ℕ) (r : Bool) → n ≡ x - 1 → w ≡ getD ws (72 + x) 0 → Come left left′ w n p low r → r ≡ true → 4096 < x → x ≤ 4608 → (f : ℕ) → f ≡ firstOf w → f ≡ 0
+  pub rule-enters : (left′ : List ℕ) (w n : ℕ) (r : Bool) → n ≡ x - 1 → w ≡ getD ws (linksAt + x) 0 → Come left left′ w n p low r → r ≡ true → nodesLimit < x → x ≤ lastLink → (f : ℕ) → f ≡ firstOf w → f ≡ 0
       → RuleEntered ws left left′ x p low w true
   rule-enters left′ w n r en ew c t a b f ef z = record {
     yes = λ q. record { rule = a; most = b; leaf = sym ef ∙ z; under = c .under t; above = c .above t; was = ap (marked left) (sym en) ∙ c .was t };

@@ -8,6 +8,7 @@ use native.Mathlib.Omega.{arith}
 use native.Mathlib.Decide.{ℕ-discrete, decLt}
 use lib.ListN.{length, getD, set, take, length-set}
 use lib.Seq.{getD-set-same, getD-set-other, getD-take}
+use Rattle.layout.specs.Layout.{nodesLimit, linksAt, lastLink, treeWords}
 use Rattle.tree.specs.Shape.{Shape, child, to, owner, floor, Fits, Up, down}
 use Rattle.term.specs.Counting.{true≢false}
 use Rattle.tree.specs.Rows.{up-same}
@@ -87,8 +88,8 @@ counts-on c r h = go (blanks r) (wants r) (c / 4096 % 8) (c / 32768) h
 
 -- ---- words of the view
 
-pub node-word : (ws : List ℕ) (n : ℕ) → n < 4608 → word (take 4681 ws) (suc n) ≡ getD ws (72 + suc n) 0
-node-word ws n h = getD-take 4681 ws (72 + suc n) 0 (omega arith)
+pub node-word : (ws : List ℕ) (n : ℕ) → n < lastLink → word (take treeWords ws) (suc n) ≡ getD ws (linksAt + suc n) 0
+node-word ws n h = getD-take treeWords ws (linksAt + suc n) 0 (omega arith)
 
 -- ---- where the walk stands
 
@@ -111,20 +112,20 @@ module _ (ws left way ks stack : List ℕ) (x p low depth top : ℕ) (s : Sizes 
         a .stuck e (f .bare (a .place) (known-valid (view ws .tree) (marked left) (a .place) (a .standing .walking .known (a .place) (List·Memᴰ·head refl))) (a .leads ∙ e))
 
     -- a node of forms comes next where something is wanted
-    inner : ¬ (wants (a .row) ≡ 0) → Asked left x p low depth (getD ws (72 + x) 0)
+    inner : ¬ (wants (a .row) ≡ 0) → Asked left x p low depth (getD ws (linksAt + x) 0)
     inner h = go x refl
       where
-        go : (l : ℕ) → x ≡ l → Asked left x p low depth (getD ws (72 + x) 0)
+        go : (l : ℕ) → x ≡ l → Asked left x p low depth (getD ws (linksAt + x) 0)
         go zero e = absurd (no-dead-end e)
-        go (suc n) e = by (decLt n 4096)
+        go (suc n) e = by (decLt n nodesLimit)
           where
             q : Fits (view ws .tree) (a .place) n × (marked left n ≡ true) × Told (view ws) n (view ws .tree .cell n ∷ a .row)
             q = meets n (a .leads ∙ e)
 
-            is : word (take 4681 ws) (suc n) ≡ getD ws (72 + x) 0
-            is = node-word ws n (nodes-low ws (s .words) n (q .0 .used)) ∙ ap (λ (k : ℕ). getD ws (72 + k) 0) (sym e)
+            is : word (take treeWords ws) (suc n) ≡ getD ws (linksAt + x) 0
+            is = node-word ws n (nodes-low ws (s .words) n (q .0 .used)) ∙ ap (λ (k : ℕ). getD ws (linksAt + k) 0) (sym e)
 
-            by : Dec (n < 4096) → Asked left x p low depth (getD ws (72 + x) 0)
+            by : Dec (n < nodesLimit) → Asked left x p low depth (getD ws (linksAt + x) 0)
             by (yes l) = let i = q .2 .node l in record {
               some = omega arith;
               node = omega arith;
@@ -134,7 +135,7 @@ module _ (ws left way ks stack : List ℕ) (x p low depth top : ℕ) (s : Sizes 
               above = subst (λ (z : ℕ). low ≤ cellOf z) is (subst (λ (z : ℕ). z ≤ view ws .tree .cell n) (a .above) (q .0 .above));
               was = ap (marked left) (let d : x - 1 ≡ n = omega arith in d) ∙ q .1;
             }
-            by (no l) = absurd (h (whole-row (view ws) (n - 4096) (a .row) (q .2 .rule (n - 4096) (omega arith))))
+            by (no l) = absurd (h (whole-row (view ws) (n - nodesLimit) (a .row) (q .2 .rule (n - nodesLimit) (omega arith))))
 
   pub refused : (left′ : List ℕ) (w : ℕ) (r : Bool) → Entered ws left left′ x p low depth w r → r ≡ false → ¬ (wants (a .row) ≡ 0) → ¬ (Found ws)
   refused left′ w r e q h f = e .no q (inner f h)
@@ -151,15 +152,15 @@ module _ (ws left way ks stack : List ℕ) (x p low depth top : ℕ) (s : Sizes 
     unfolding n
     up-one = let q = asked .some in omega arith
 
-    n-low : n < 4096
+    n-low : n < nodesLimit
     unfolding n
     n-low = let q = asked .some in let l = asked .node in omega arith
 
-    is : word (take 4681 ws) (suc n) ≡ w
-    is = node-word ws n (let l = n-low in omega arith) ∙ ap (λ (k : ℕ). getD ws (72 + k) 0) up-one ∙ sym (e .word t)
+    is : word (take treeWords ws) (suc n) ≡ w
+    is = node-word ws n (let l = n-low in omega arith) ∙ ap (λ (k : ℕ). getD ws (linksAt + k) 0) up-one ∙ sym (e .word t)
 
-    pub one-less : tally (marked left) 4608 ≡ suc (tally (marked left′) 4608)
-    one-less = tally-more (marked left′) (marked left) (x - 1) 4608 (let q = asked .some in let l = asked .node in omega arith) (e .gone t) (asked .was) (λ y d. sym (e .others t y d))
+    pub one-less : tally (marked left) lastLink ≡ suc (tally (marked left′) lastLink)
+    one-less = tally-more (marked left′) (marked left) (x - 1) lastLink (let q = asked .some in let l = asked .node in omega arith) (e .gone t) (asked .was) (λ y d. sym (e .others t y d))
 
     inner-told : Told (view ws) n (view ws .tree .cell n ∷ a .row)
     inner-told = record {
@@ -251,7 +252,7 @@ pub record Downing (ws left₀ left way ks stack : List ℕ) (x p low depth top 
   pub at : AtPlace ws left way ks stack x p low depth top
   pub count : k ≡ counts (at .row)
   pub cells : last ≡ wordOf (at .row)
-  pub fewer : tally (marked left) 4608 ≤ tally (marked left₀) 4608
+  pub fewer : tally (marked left) lastLink ≤ tally (marked left₀) lastLink
   pub deep : depth ≤ 32
   pub tops : top ≤ 32
   pub known : k / 65536 ≤ 32

@@ -7,6 +7,7 @@ use native.Mathlib.Omega.{arith}
 use lib.ListN.{length, getD, set, take, length-take, replicate, length-append, length-replicate}
 use native.Mathlib.Decide.{ℕ-discrete}
 use lib.Seq.{getD-take, getD-set-same, getD-set-other, ext-getD}
+use Rattle.layout.specs.Layout.{mapWords, linksAt, treeWords, bookWords}
 use Rattle.bits.specs.Packed.{bits}
 use Rattle.term.specs.Counting.{true≢false}
 use Rattle.tree.specs.Shape.{child, after, to}
@@ -27,33 +28,33 @@ use Rattle.passing.proofs.Downing.{kept-back}
 abbrev pub CopiedTo : List ℕ → List ℕ → ℕ → Type 0
 CopiedTo ws left i = (j : ℕ) → j < i → getD left j 0 ≡ getD ws j 0
 
-pub copied-on : (ws left : List ℕ) (i : ℕ) → length left ≡ 72 → i < 72 → CopiedTo ws left i → CopiedTo ws (set left i (getD ws i 0)) (i + 1)
+pub copied-on : (ws left : List ℕ) (i : ℕ) → length left ≡ mapWords → i < mapWords → CopiedTo ws left i → CopiedTo ws (set left i (getD ws i 0)) (i + 1)
 copied-on ws left i l h c j k = go (ℕ-discrete j i)
   where
     go : Dec (j ≡ i) → getD (set left i (getD ws i 0)) j 0 ≡ getD ws j 0
     go (yes q) = ap (λ (z : ℕ). getD (set left i (getD ws i 0)) z 0) q ∙ getD-set-same left i (getD ws i 0) 0 (omega arith) ∙ ap (λ (z : ℕ). getD ws z 0) (sym q)
     go (no q) = getD-set-other left i j (getD ws i 0) 0 q ∙ c j (omega arith)
 
-pub copied-all : (ws left : List ℕ) (i : ℕ) → length ws ≡ 12618 → length left ≡ 72 → 72 ≤ i → CopiedTo ws left i → left ≡ take 72 ws
-copied-all ws left i size l h c = ext-getD 0 left (take 72 ws) (omega (arith, length-take 72 ws)) (λ j k. c j (omega arith) ∙ sym (getD-take 72 ws j 0 (omega arith)))
+pub copied-all : (ws left : List ℕ) (i : ℕ) → length ws ≡ bookWords → length left ≡ mapWords → mapWords ≤ i → CopiedTo ws left i → left ≡ take mapWords ws
+copied-all ws left i size l h c = ext-getD 0 left (take mapWords ws) (omega (arith, length-take mapWords ws)) (λ j k. c j (omega arith) ∙ sym (getD-take mapWords ws j 0 (omega arith)))
 
 -- ---- none is left
 
-pub clear-yes : (left : List ℕ) → left ≡ replicate 72 0 → Clear left
-clear-yes left e n = ap (λ (l : List ℕ). marked l n) e ∙ no-mark 72 n
+pub clear-yes : (left : List ℕ) → left ≡ replicate mapWords 0 → Clear left
+clear-yes left e n = ap (λ (l : List ℕ). marked l n) e ∙ no-mark mapWords n
 
-pub clear-no : (left : List ℕ) → length left ≡ 72 → (bits left ≡ bits (replicate 72 0) → ⊥) → ¬ (Clear left)
-clear-no left long n h = n (same-bits left (replicate 72 0) (long ∙ sym (length-replicate {A = ℕ} 72 0)) (λ k. h k ∙ sym (no-mark 72 k)))
+pub clear-no : (left : List ℕ) → length left ≡ mapWords → (bits left ≡ bits (replicate mapWords 0) → ⊥) → ¬ (Clear left)
+clear-no left long n h = n (same-bits left (replicate mapWords 0) (long ∙ sym (length-replicate {A = ℕ} mapWords 0)) (λ k. h k ∙ sym (no-mark mapWords k)))
 
 -- ---- the answer
 
-pub found-passes : (ws : List ℕ) → length ws ≡ 12618 → Found ws → Passing ws
+pub found-passes : (ws : List ℕ) → length ws ≡ bookWords → Found ws → Passing ws
 found-passes ws size f = record { size = size; right = ended-right (view ws) (nodes-low ws size) f }
 
 pub answers-no : (ws : List ℕ) → ¬ (Found ws) → Checks ws false
 answers-no ws n = record { yes = λ q. absurd (true≢false q refl); no = λ q p. n (right-ended (view ws) (nodes-low ws (p .size)) (p .right)) }
 
-pub walked : (ws left : List ℕ) → length ws ≡ 12618 → Walking (view ws .tree) Bare (Told (view ws)) [] (marked left) → (r : Bool) → Decides (Clear left) r → Checks ws r
+pub walked : (ws left : List ℕ) → length ws ≡ bookWords → Walking (view ws .tree) Bare (Told (view ws)) [] (marked left) → (r : Bool) → Decides (Clear left) r → Checks ws r
 walked ws left size w r d = record {
   yes = λ q. found-passes ws size (ended (view ws .tree) Bare (Told (view ws)) (marked left) w (d .0 q));
   no = λ q p. let f = right-ended (view ws) (nodes-low ws size) (p .right) in d .1 q (λ n. gone f n (marked left n) refl);
@@ -65,19 +66,19 @@ walked ws left size w r d = record {
 
 -- ---- the first place
 
-module _ (ws left : List ℕ) (size : length ws ≡ 12618) (el : left ≡ take 72 ws) where
+module _ (ws left : List ℕ) (size : length ws ≡ bookWords) (el : left ≡ take mapWords ws) where
   first-standing : Standing (view ws .tree) Bare (Told (view ws)) (child 0) [] [] (marked left)
-  first-standing = subst (λ (l : List ℕ). Standing (view ws .tree) Bare (Told (view ws)) (child 0) [] [] (marked l)) (inside ws 0 72 (omega arith) ∙ sym el)
+  first-standing = subst (λ (l : List ℕ). Standing (view ws .tree) Bare (Told (view ws)) (child 0) [] [] (marked l)) (inside ws 0 mapWords (omega arith) ∙ sym el)
       (set-off (view ws .tree) Bare (Told (view ws)))
 
-  root-word : word (take 4681 ws) 0 ≡ getD ws 72 0
-  root-word = getD-take 4681 ws 72 0 (omega arith)
+  root-word : word (take treeWords ws) 0 ≡ getD ws linksAt 0
+  root-word = getD-take treeWords ws linksAt 0 (omega arith)
 
-  pub no-child : (x : ℕ) → x ≡ firstOf (getD ws 72 0) → x ≡ 0 → (r : Bool) → Decides (Clear left) r → Checks ws r
+  pub no-child : (x : ℕ) → x ≡ firstOf (getD ws linksAt 0) → x ≡ 0 → (r : Bool) → Decides (Clear left) r → Checks ws r
   no-child x e z r d = walked ws left size
       (go-end (view ws .tree) Bare (Told (view ws)) (marked left) (child 0) [] [] first-standing refl (ap firstOf root-word ∙ sym e ∙ z) tt) r d
 
-  pub first-place : (x : ℕ) → x ≡ firstOf (getD ws 72 0) → ¬ (x ≡ 0) → AtPlace ws left (replicate 33 0) (replicate 33 1) (replicate 33 0) x 0 0 0 0
+  pub first-place : (x : ℕ) → x ≡ firstOf (getD ws linksAt 0) → ¬ (x ≡ 0) → AtPlace ws left (replicate 33 0) (replicate 33 1) (replicate 33 0) x 0 0 0 0
   first-place x e z = record {
     place = child 0;
     row = [];
@@ -96,7 +97,7 @@ module _ (ws left : List ℕ) (size : length ws ≡ 12618) (el : left ≡ take 7
 
 -- ---- at the end of a list of siblings
 
-module _ (ws left way ks stack : List ℕ) (depth top : ℕ) (size : length ws ≡ 12618) (o : Over ws left way ks stack depth top) where
+module _ (ws left way ks stack : List ℕ) (depth top : ℕ) (size : length ws ≡ bookWords) (o : Over ws left way ks stack depth top) where
   pub walk-over : top ≡ 0 → (r : Bool) → Decides (Clear left) r → Checks ws r
   walk-over z r d = walked ws left size
       (go-end (view ws .tree) Bare (Told (view ws)) (marked left) (o .place) (o .row) (o .stops) (o .standing) (no-stops (subst (λ (k : ℕ). Stacked (view ws .tree) stack k (o .stops)) z (o .stacked))) (o .leads) (o .bare)) r d
@@ -143,13 +144,13 @@ pub record Checking (ws left way ks stack : List ℕ) (x p low depth top : ℕ) 
   pub sizes : Sizes ws left way ks stack
   pub at : AtPlace ws left way ks stack x p low depth top
 
-pub wrong-length : (ws : List ℕ) → ¬ (length ws ≡ 12618) → Checks ws false
+pub wrong-length : (ws : List ℕ) → ¬ (length ws ≡ bookWords) → Checks ws false
 wrong-length ws n = record { yes = λ q. absurd (true≢false q refl); no = λ q p. n (p .size) }
 
-pub sizes-first : (ws left : List ℕ) → length ws ≡ 12618 → left ≡ take 72 ws → Sizes ws left (replicate 33 0) (replicate 33 1) (replicate 33 0)
+pub sizes-first : (ws left : List ℕ) → length ws ≡ bookWords → left ≡ take mapWords ws → Sizes ws left (replicate 33 0) (replicate 33 1) (replicate 33 0)
 sizes-first ws left size e = record {
   words = size;
-  maps = ap length e ∙ omega (arith, length-take 72 ws);
+  maps = ap length e ∙ omega (arith, length-take mapWords ws);
   ways = length-replicate {A = ℕ} 33 0;
   counts = length-replicate {A = ℕ} 33 1;
   stops = length-replicate {A = ℕ} 33 0;

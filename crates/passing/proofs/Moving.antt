@@ -8,6 +8,7 @@ use native.Mathlib.Omega.{arith}
 use native.Mathlib.Decide.{ℕ-discrete, decLt}
 use lib.Bits.{bitOr, or-add-and, and-le-l, and-le-r}
 use lib.ListN.{length, getD, List·getD-eq-default}
+use Rattle.layout.specs.Layout.{termWords}
 use Rattle.bits.specs.Packed.{fields}
 use Rattle.bits.specs.Laws.{get-unpack}
 use Rattle.term.specs.Counting.{true≢false}
@@ -24,7 +25,7 @@ left-zero a b e = omega (arith, or-add-and a b, and-le-r a b)
 right-zero : (a b : ℕ) → bitOr a b ≡ 0 → b ≡ 0
 right-zero a b e = omega (arith, or-add-and a b, and-le-l a b)
 
-pub all-six : (ws : List ℕ) → length ws ≡ 8 → bitOr (bitOr (bitOr (bitOr (bitOr (getD ws 2 0) (getD ws 3 0)) (getD ws 4 0)) (getD ws 5 0)) (getD ws 6 0)) (getD ws 7 0) ≡ 0
+pub all-six : (ws : List ℕ) → length ws ≡ termWords → bitOr (bitOr (bitOr (bitOr (bitOr (getD ws 2 0) (getD ws 3 0)) (getD ws 4 0)) (getD ws 5 0)) (getD ws 6 0)) (getD ws 7 0) ≡ 0
     → (j : ℕ) → 2 ≤ j → getD ws j 0 ≡ 0
 all-six ws h e = one
   where
@@ -182,7 +183,7 @@ module _ (words way ks row : List ℕ) (depth : ℕ) (kept : Kept way ks row) (l
 -- ---- the record is decided
 
 module _ (words way : List ℕ) (depth : ℕ) where
-  pub plainly : length words ≡ 8 → PlainOf words way depth → TermDecided words way depth true
+  pub plainly : length words ≡ termWords → PlainOf words way depth → TermDecided words way depth true
   plainly eight p = record { yes = λ q ks row kept low deep whole. plain-term words way ks row depth eight kept low deep whole (p ks row kept low deep); no = λ q. absurd (true≢false refl q) }
 
   pub by-cells : (r : Bool) → Decides (TermOf words way depth) r → TermDecided words way depth r

@@ -6,6 +6,7 @@ use native.Mathlib.Omega.{arith}
 use native.Mathlib.Decide.{ℕ-discrete}
 use lib.ListN.{length, getD, take, drop, length-take, length-reverse, List·getD-append, take-append-drop}
 use lib.Seq.{ext-getD, getD-take, getD-append-add}
+use Rattle.layout.specs.Layout.{termWords}
 use Rattle.bits.specs.Packed.{fields}
 use Rattle.bits.specs.Laws.{length-unpack}
 use Rattle.term.specs.Reading.{readTerm}
@@ -52,7 +53,7 @@ way-cell {way} {ks} (more {c} {r} a b w k) h s j l = go (λ q. way-cell k (λ d 
         ∙ last-part (wordOf r % 281474976710656) (numbered c (blanks r)) (numbered-low c (blanks r) (h c (List·Memᴰ·head refl)) (omega arith)) ∙ sym at ∙ ap (λ (z : ℕ). getD (reverse (general (c ∷ r))) z 0) (sym q)
     go ih (no q) = ih (omega arith) ∙ sym (before (omega arith))
 
-pub plain-term : (words way ks row : List ℕ) (depth : ℕ) → length words ≡ 8 → Kept way ks row → Low row → length row ≡ depth → wants row ≡ 0 → Plain words way depth → TermOf words way depth
+pub plain-term : (words way ks row : List ℕ) (depth : ℕ) → length words ≡ termWords → Kept way ks row → Low row → length row ≡ depth → wants row ≡ 0 → Plain words way depth → TermOf words way depth
 plain-term words way ks row depth eight k h d z p = record { whole = whole; clean = p .clean; same = λ j l. ap blankNumber (p .same j l) }
   where
     long : length (fields words) ≡ 32

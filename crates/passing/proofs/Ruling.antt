@@ -9,6 +9,7 @@ use borrow.Author.Tests.{lt-ltb, le-ltb}
 use lib.Dec.{ltb}
 use lib.ListN.{length, getD, take, drop, length-take, length-map, length-reverse, List·getD-append}
 use lib.Seq.{ext-getD, getD-take, getD-append-add}
+use Rattle.layout.specs.Layout.{ruleNumbers, rulesLimit, rulesAt, placesAt, placeWords, termWords, recordWords, recordsAt, termsAt}
 use Rattle.bits.specs.Packed.{fields, Zeros}
 use Rattle.term.specs.Counting.{true≢false}
 use Rattle.term.specs.Reading.{readTerm}
@@ -112,35 +113,35 @@ kept-cell {way} {ks} (more {c} {r} a b w k) h s j l = go (λ q. kept-cell k (λ 
 
 -- ---- the rule at a place
 
-module _ (ws way : List ℕ) (k depth : ℕ) (hk : k < 512) (n : ℕ) (en : n ≡ cellOf (getD ws (4169 + k) 0)) where
+module _ (ws way : List ℕ) (k depth : ℕ) (hk : k < rulesLimit) (n : ℕ) (en : n ≡ cellOf (getD ws (rulesAt + k) 0)) where
   is-number : n ≡ number (view ws) k
   is-number = en ∙ rule-number ws k hk
 
   refused : ¬ (RuleAt ws way k depth) → RuleDecided ws way k depth false
   refused h = record { yes = λ q. absurd (true≢false q refl); no = λ q. h }
 
-  pub rule-high : 4096 ≤ n → RuleDecided ws way k depth false
+  pub rule-high : ruleNumbers ≤ n → RuleDecided ws way k depth false
   rule-high h = refused (λ r. let l = r .low in let e = is-number in omega arith)
 
-  pub rule-lost : (p : ℕ) → p ≡ getD (fields (take 1024 (drop 6986 ws))) n 0 → ¬ (p ≡ k) → RuleDecided ws way k depth false
+  pub rule-lost : (p : ℕ) → p ≡ getD (fields (take placeWords (drop placesAt ws))) n 0 → ¬ (p ≡ k) → RuleDecided ws way k depth false
   rule-lost p e h = refused (λ r. h (e ∙ ap (view ws .place) is-number ∙ r .found))
 
-  size-is : getD ws (8011 + 9 * k - 1) 0 ≡ view ws .size k
-  size-is = let e : 8011 + 9 * k - 1 ≡ 8010 + 9 * k = omega arith in ap (λ (j : ℕ). getD ws j 0) e
+  size-is : getD ws (termsAt + recordWords * k - 1) 0 ≡ view ws .size k
+  size-is = let e : termsAt + recordWords * k - 1 ≡ recordsAt + recordWords * k = omega arith in ap (λ (j : ℕ). getD ws j 0) e
 
-  pub rule-long : ¬ (getD ws (8011 + 9 * k - 1) 0 ≡ depth) → RuleDecided ws way k depth false
+  pub rule-long : ¬ (getD ws (termsAt + recordWords * k - 1) 0 ≡ depth) → RuleDecided ws way k depth false
   rule-long h = refused (λ r. h (size-is ∙ r .size))
 
-  pub rule-is : n < 4096 → (p : ℕ) → p ≡ getD (fields (take 1024 (drop 6986 ws))) n 0 → p ≡ k → getD ws (8011 + 9 * k - 1) 0 ≡ depth
-      → (w : ℕ) → w ≡ 8 → (b : Bool) → TermDecided (take w (drop (8011 + 9 * k) ws)) way depth b → RuleDecided ws way k depth b
+  pub rule-is : n < ruleNumbers → (p : ℕ) → p ≡ getD (fields (take placeWords (drop placesAt ws))) n 0 → p ≡ k → getD ws (termsAt + recordWords * k - 1) 0 ≡ depth
+      → (w : ℕ) → w ≡ termWords → (b : Bool) → TermDecided (take w (drop (termsAt + recordWords * k) ws)) way depth b → RuleDecided ws way k depth b
   rule-is l p e f s w ew b d = record {
     yes = λ q ks row kept small deep whole. record {
-      low = subst (λ (z : ℕ). z < 4096) is-number l;
+      low = subst (λ (z : ℕ). z < ruleNumbers) is-number l;
       found = ap (view ws .place) (sym is-number) ∙ sym e ∙ f;
       size = sym size-is ∙ s;
-      term = subst (λ (z : ℕ). TermOf (take z (drop (8011 + 9 * k) ws)) way depth) ew (d .yes q ks row kept small deep whole);
+      term = subst (λ (z : ℕ). TermOf (take z (drop (termsAt + recordWords * k) ws)) way depth) ew (d .yes q ks row kept small deep whole);
     };
-    no = λ q r. d .no q (subst (λ (z : ℕ). TermOf (take z (drop (8011 + 9 * k) ws)) way depth) (sym ew) (r .term));
+    no = λ q r. d .no q (subst (λ (z : ℕ). TermOf (take z (drop (termsAt + recordWords * k) ws)) way depth) (sym ew) (r .term));
   }
 
 -- ---- it is the rule that hangs below the row of the way

@@ -5,6 +5,7 @@ use mathlib.Core.Bool.{Bool, true, false}
 use Prim.Native.Nat.{ℕ, zero, suc, _+_, _-_, _*_, _/_, _%_, _≤_, _<_}
 use lib.Dec.{ltb}
 use lib.ListN.{length, getD, set, take, drop}
+use Rattle.layout.specs.Layout.{ruleNumbers, nodesLimit, mapWords, linksAt, lastLink, termWords, recordWords, termsAt, bookWords}
 use Rattle.bits.specs.Packed.{fields, Zeros}
 use Rattle.term.specs.Reading.{readTerm}
 use Rattle.term.specs.declared.reading.Reading.the-variants.{Whole}
@@ -94,8 +95,8 @@ pub record Pushed (stack stack′ : List ℕ) (top top′ w depth : ℕ) : Type 
 
 -- The lengths of the memory and of the arrays
 pub record Sizes (ws left way ks stack : List ℕ) : Type 0 where
-  pub words : length ws ≡ 12618
-  pub maps : length left ≡ 72
+  pub words : length ws ≡ bookWords
+  pub maps : length left ≡ mapWords
   pub ways : length way ≡ 33
   pub counts : length ks ≡ 33
   pub stops : length stack ≡ 33
@@ -103,7 +104,7 @@ pub record Sizes (ws left way ks stack : List ℕ) : Type 0 where
 -- What is asked of a node of forms that the link x leads to, with the word w
 pub record Asked (left : List ℕ) (x p low depth w : ℕ) : Type 0 where
   pub some : 0 < x
-  pub node : x ≤ 4096
+  pub node : x ≤ nodesLimit
   pub short : depth < 32
   pub cell : cellOf w ≤ 32768
   pub under : parentOf w ≡ p
@@ -113,16 +114,16 @@ pub record Asked (left : List ℕ) (x p low depth w : ℕ) : Type 0 where
 -- It is asked, and then the node is left no more
 pub record Entered (ws left left′ : List ℕ) (x p low depth w : ℕ) (r : Bool) : Type 0 where
   pub yes : r ≡ true → Asked left x p low depth w
-  pub word : r ≡ true → w ≡ getD ws (72 + x) 0
+  pub word : r ≡ true → w ≡ getD ws (linksAt + x) 0
   pub gone : r ≡ true → marked left′ (x - 1) ≡ false
   pub others : r ≡ true → (y : ℕ) → ¬ (y ≡ x - 1) → marked left′ y ≡ marked left y
-  pub no : r ≡ false → ¬ (Asked left x p low depth (getD ws (72 + x) 0))
+  pub no : r ≡ false → ¬ (Asked left x p low depth (getD ws (linksAt + x) 0))
 
 -- Down to the end of a form
 pub record Downed (ws left left′ way ks stack : List ℕ) (x p low depth top : ℕ) (r : Bool) : Type 0 where
   pub at : r ≡ true → AtPlace ws left′ way ks stack x p low depth top
   pub whole : r ≡ true → getD ks depth 0 % 65536 ≡ 0
-  pub fewer : r ≡ true → tally (marked left′) 4608 ≤ tally (marked left) 4608
+  pub fewer : r ≡ true → tally (marked left′) lastLink ≤ tally (marked left) lastLink
   pub no : r ≡ false → ¬ (Found ws)
 
 -- The words of a record are those of a whole term of this length, and zeros, with the blanks of the way
@@ -151,10 +152,10 @@ pub record TermDecided (words way : List ℕ) (depth : ℕ) (r : Bool) : Type 0 
 
 -- The same for the rule at the place k: its number, the place of its number, and its record
 pub record RuleAt (ws way : List ℕ) (k depth : ℕ) : Type 0 where
-  pub low : number (view ws) k < 4096
+  pub low : number (view ws) k < ruleNumbers
   pub found : view ws .place (number (view ws) k) ≡ k
   pub size : view ws .size k ≡ depth
-  pub term : TermOf (take 8 (drop (8011 + 9 * k) ws)) way depth
+  pub term : TermOf (take termWords (drop (termsAt + recordWords * k) ws)) way depth
 
 pub record RuleDecided (ws way : List ℕ) (k depth : ℕ) (r : Bool) : Type 0 where
   pub yes : r ≡ true → (ks row : List ℕ) → Kept way ks row → Low row → length row ≡ depth → wants row ≡ 0 → RuleAt ws way k depth
@@ -162,8 +163,8 @@ pub record RuleDecided (ws way : List ℕ) (k depth : ℕ) (r : Bool) : Type 0 w
 
 -- What is asked of a rule that the link x leads to, with the word w
 pub record AskedRule (left : List ℕ) (x p low w : ℕ) : Type 0 where
-  pub rule : 4096 < x
-  pub most : x ≤ 4608
+  pub rule : nodesLimit < x
+  pub most : x ≤ lastLink
   pub leaf : firstOf w ≡ 0
   pub under : parentOf w ≡ p
   pub above : low ≤ cellOf w
@@ -171,10 +172,10 @@ pub record AskedRule (left : List ℕ) (x p low w : ℕ) : Type 0 where
 
 pub record RuleEntered (ws left left′ : List ℕ) (x p low w : ℕ) (r : Bool) : Type 0 where
   pub yes : r ≡ true → AskedRule left x p low w
-  pub word : r ≡ true → w ≡ getD ws (72 + x) 0
+  pub word : r ≡ true → w ≡ getD ws (linksAt + x) 0
   pub gone : r ≡ true → marked left′ (x - 1) ≡ false
   pub others : r ≡ true → (y : ℕ) → ¬ (y ≡ x - 1) → marked left′ y ≡ marked left y
-  pub no : r ≡ false → ¬ (AskedRule left x p low (getD ws (72 + x) 0))
+  pub no : r ≡ false → ¬ (AskedRule left x p low (getD ws (linksAt + x) 0))
 
 -- The walk stands at the end of a list of siblings
 pub record Over (ws left way ks stack : List ℕ) (depth top : ℕ) : Type 0 where
@@ -193,7 +194,7 @@ pub record Over (ws left way ks stack : List ℕ) (depth top : ℕ) : Type 0 whe
 -- Along the rules below a whole form
 pub record Ruled (ws left left′ way ks stack : List ℕ) (depth top : ℕ) (r : Bool) : Type 0 where
   pub over : r ≡ true → Over ws left′ way ks stack depth top
-  pub fewer : r ≡ true → tally (marked left′) 4608 < tally (marked left) 4608
+  pub fewer : r ≡ true → tally (marked left′) lastLink < tally (marked left) lastLink
   pub no : r ≡ false → ¬ (Found ws)
 
 -- No node is left

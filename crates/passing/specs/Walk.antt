@@ -8,6 +8,7 @@ use Prim.Native.Nat.{ℕ, zero, suc, _+_, _-_, _/_, _%_, _≤_, _<_}
 use native.Mathlib.Omega.{arith}
 use native.Mathlib.Decide.{decLt}
 use lib.ListN.{length, length-take, length-map, length-append, length-reverse}
+use Rattle.layout.specs.Layout.{nodesLimit, rulesLimit, lastLink}
 use Rattle.term.specs.Cells.{Terms, arity, blankOf, blankForm}
 use Rattle.term.specs.Beginnings.{Begins}
 use Rattle.term.specs.Preorder.{recount, open-row, empty-none}
@@ -51,13 +52,13 @@ pub record Hangs (v : View) (k : ℕ) (p : List ℕ) : Type 0 where
   pub is : form v k ≡ reverse p
 
 pub record Told (v : View) (n : ℕ) (r : List ℕ) : Type 0 where
-  pub node : n < 4096 → Inner (v .tree .cell n) (behind r)
-  pub rule : (k : ℕ) → n ≡ 4096 + k → Hangs v k (behind r)
+  pub node : n < nodesLimit → Inner (v .tree .cell n) (behind r)
+  pub rule : (k : ℕ) → n ≡ nodesLimit + k → Hangs v k (behind r)
 
 -- a node has a child, and only a rule has none
 abbrev pub Bare : Place → Type 0
 Bare (child zero) = Unit {0}
-Bare (child (suc n)) = 4096 ≤ n
+Bare (child (suc n)) = nodesLimit ≤ n
 Bare (after n) = Unit {0}
 
 -- ---- rows and forms
@@ -117,16 +118,16 @@ whole-row v k p h =
     empty-none (wants-rest p [] (λ c i. form-low (term v k) (subst (λ (z : List ℕ). List·Memᴰ c z) (sym (h .is)) (in-reverse p i)))
     (subst (Terms 1) (sym (form-row (term v k)) ∙ ap (map blankOf) (h .is ∙ sym (append-nil (reverse p)))) (t .form)))
 
-module _ (v : View) (small : (n : ℕ) → Used (v .tree) n → n < 4608) where
+module _ (v : View) (small : (n : ℕ) → Used (v .tree) n → n < lastLink) where
   -- ---- where all this is found the view is right
 
   module _ (e : Ended (v .tree) Bare (Told v)) where
     short : (n : ℕ) (r : List ℕ) → Up (v .tree) (suc n) r → length r ≤ 33
-    short n r x = let q = e .told n (up-used x) in let l = row-long (q .0) in omega (arith, ap length (up-same (q .1) x), go (q .0) (q .2) (decLt n 4096))
+    short n r x = let q = e .told n (up-used x) in let l = row-long (q .0) in omega (arith, ap length (up-same (q .1) x), go (q .0) (q .2) (decLt n nodesLimit))
       where
-        go : (r : List ℕ) → Told v n r → Dec (n < 4096) → length (behind r) ≤ 32
+        go : (r : List ℕ) → Told v n r → Dec (n < nodesLimit) → length (behind r) ≤ 32
         go r t (yes l) = let s = t .node l .short in omega arith
-        go r t (no l) = let h = t .rule (n - 4096) (omega arith) in omega (arith, form-long v (n - 4096) (h .right), ap length (h .is), length-reverse (behind r))
+        go r t (no l) = let h = t .rule (n - nodesLimit) (omega arith) in omega (arith, form-long v (n - nodesLimit) (h .right), ap length (h .is), length-reverse (behind r))
 
     ways : (x : End) → List·Memᴰ x (ends (leaves v)) → Up (v .tree) (suc (x .last)) (reverse (x .form))
     ways x i = let q = of-ends v (taken v) i in subst (λ (y : End). Up (v .tree) (suc (y .last)) (reverse (y .form))) (q .3) (at (q .0) (q .1))
@@ -136,36 +137,36 @@ module _ (v : View) (small : (n : ℕ) → Used (v .tree) n → n < 4608) where
             ap (λ (z : List ℕ). c ∷ z) (sym (reverse-reverse p) ∙ ap reverse (sym b)) ∙ ap (λ (z : ℕ). z ∷ reverse (form v k)) (sym a)
             ∙ sym (reverse-append (form v k) (number v k ∷ []))
 
-        by : (k : ℕ) {r : List ℕ} → Up (v .tree) (suc (4096 + k)) r → Told v (4096 + k) r → Up (v .tree) (suc (4096 + k)) (reverse (form v k ++ (number v k ∷ [])))
-        by k (down {c = c} {r = p} u d y) t = subst (λ (z : List ℕ). Up (v .tree) (suc (4096 + k)) z) (same k d (t .rule k refl .is)) (down u d y)
+        by : (k : ℕ) {r : List ℕ} → Up (v .tree) (suc (nodesLimit + k)) r → Told v (nodesLimit + k) r → Up (v .tree) (suc (nodesLimit + k)) (reverse (form v k ++ (number v k ∷ [])))
+        by k (down {c = c} {r = p} u d y) t = subst (λ (z : List ℕ). Up (v .tree) (suc (nodesLimit + k)) z) (same k d (t .rule k refl .is)) (down u d y)
 
-        at : (k : ℕ) → taken v k ≡ true → Up (v .tree) (suc (4096 + k)) (reverse (form v k ++ (number v k ∷ [])))
-        at k u = let q = e .told (4096 + k) u in by k (q .1) (q .2)
+        at : (k : ℕ) → taken v k ≡ true → Up (v .tree) (suc (nodesLimit + k)) (reverse (form v k ++ (number v k ∷ [])))
+        at k u = let q = e .told (nodesLimit + k) u in by k (q .1) (q .2)
 
     covered : (n : ℕ) → Used (v .tree) n → Covered (v .tree) (ends (leaves v)) n
-    covered n u = at (reach-end (v .tree) (e .tree) 33 short (λ k. Used (v .tree) k × (4096 ≤ k)) end n u)
+    covered n u = at (reach-end (v .tree) (e .tree) 33 short (λ k. Used (v .tree) k × (nodesLimit ≤ k)) end n u)
       where
-        end : (n : ℕ) → Used (v .tree) n → (Used (v .tree) n × (4096 ≤ n)) ⊎ ((k : ℕ) × (v .tree .first (suc n) ≡ suc k))
+        end : (n : ℕ) → Used (v .tree) n → (Used (v .tree) n × (nodesLimit ≤ n)) ⊎ ((k : ℕ) × (v .tree .first (suc n) ≡ suc k))
         end n u = go (v .tree .first (suc n)) refl
           where
-            go : (l : ℕ) → v .tree .first (suc n) ≡ l → (Used (v .tree) n × (4096 ≤ n)) ⊎ ((k : ℕ) × (v .tree .first (suc n) ≡ suc k))
+            go : (l : ℕ) → v .tree .first (suc n) ≡ l → (Used (v .tree) n × (nodesLimit ≤ n)) ⊎ ((k : ℕ) × (v .tree .first (suc n) ≡ suc k))
             go zero q = inl (u, e .bare (child (suc n)) u q)
             go (suc k) q = inr (k, q)
 
-        at : (k : ℕ) × (Used (v .tree) k × (4096 ≤ k)) × On (v .tree) n (suc k) → Covered (v .tree) (ends (leaves v)) n
+        at : (k : ℕ) × (Used (v .tree) k × (nodesLimit ≤ k)) × On (v .tree) n (suc k) → Covered (v .tree) (ends (leaves v)) n
         at q =
             let h = q .1 .1 in
-            let d : q .0 ≡ 4096 + (q .0 - 4096) = omega arith in
-            let w : taken v (q .0 - 4096) ≡ true = ap (v .tree .used) (sym d) ∙ q .1 .0 in
+            let d : q .0 ≡ nodesLimit + (q .0 - nodesLimit) = omega arith in
+            let w : taken v (q .0 - nodesLimit) ≡ true = ap (v .tree .used) (sym d) ∙ q .1 .0 in
             record {
-              end = endAt v (q .0 - 4096);
-              among = to-ends v (taken v) (q .0 - 4096) w (let l = small (q .0) (q .1 .0) in omega arith);
+              end = endAt v (q .0 - nodesLimit);
+              among = to-ends v (taken v) (q .0 - nodesLimit) w (let l = small (q .0) (q .1 .0) in omega arith);
               on = subst (λ (z : ℕ). On (v .tree) n (suc z)) d (q .2);
             }
 
     pub ended-right : Right v
     ended-right = record {
-      records = λ k u. e .told (4096 + k) u .2 .rule k refl .right;
+      records = λ k u. e .told (nodesLimit + k) u .2 .rule k refl .right;
       tree = record { goes = e .tree .goes; comes = e .tree .comes; ways = ways; covered = covered };
     }
 
@@ -178,21 +179,21 @@ module _ (v : View) (small : (n : ℕ) → Used (v .tree) n → n < 4608) where
     bare : (s : Place) → Valid (v .tree) s → to (v .tree) s ≡ 0 → Bare s
     bare (child zero) u e = tt
     bare (after n) u e = tt
-    bare (child (suc n)) u e = go (decLt n 4096)
+    bare (child (suc n)) u e = go (decLt n nodesLimit)
       where
         c : Covered (v .tree) (ends (leaves v)) n
         c = right .tree .covered n u
 
-        at : n < 4096 → (suc (c .end .last) ≡ suc n) ⊎ ((i : ℕ) × Used (v .tree) i × (v .tree .parent i ≡ suc n)) → 4096 ≤ n
+        at : n < nodesLimit → (suc (c .end .last) ≡ suc n) ⊎ ((i : ℕ) × Used (v .tree) i × (v .tree .parent i ≡ suc n)) → nodesLimit ≤ n
         at l (inl q) = let k = of-ends v (taken v) (c .among) in absurd (omega (arith, ap (λ (x : End). x .last) (k .3)))
         at l (inr q) = absurd (childless (v .tree) tree (suc n) e (q .0) (q .1) (q .2))
 
-        go : Dec (n < 4096) → 4096 ≤ n
+        go : Dec (n < nodesLimit) → nodesLimit ≤ n
         go (yes l) = at l (way-child (c .on) (right .tree .ways (c .end) (c .among)))
         go (no l) = omega arith
 
     -- a node's row is a beginning of a form that goes on
-    inner : (n : ℕ) → n < 4096 → {c : ℕ} {p : List ℕ} → Up (v .tree) (suc n) (c ∷ p) → Inner c p
+    inner : (n : ℕ) → n < nodesLimit → {c : ℕ} {p : List ℕ} → Up (v .tree) (suc n) (c ∷ p) → Inner c p
     inner n l {c} {p} x = at (numbered (hanging v small right) .begins n (c ∷ p) l x)
       where
         by : (t : List ℕ) → Terms 1 (blankForm t) → length t ≤ 32 → (u : List ℕ) → reverse (c ∷ p) ++ u ≡ formOf t → Inner c p
@@ -209,33 +210,33 @@ module _ (v : View) (small : (n : ℕ) → Used (v .tree) n → n < 4608) where
         at : Begins (reverse (c ∷ p)) (bases (leaves v)) → Inner c p
         at b =
             let x = Memᴰ·of-map (λ (y : Leaf). y .form) (leaves v) (b .among) in
-            let y = Memᴰ·of-map (leaf v) (listed (taken v) 512) (x .1) in
-            let u = of-listed (taken v) 512 (y .1) .0 in
+            let y = Memᴰ·of-map (leaf v) (listed (taken v) rulesLimit) (x .1) in
+            let u = of-listed (taken v) rulesLimit (y .1) .0 in
             let t = term-at v small right (y .0) u in
             by (term v (y .0)) (t .form) (omega (arith, term-size v small right (y .0) u, t .short)) (b .rest) (b .is ∙ sym (x .2) ∙ ap (λ (z : Leaf). z .form) (sym (y .2)))
 
     told : (n : ℕ) → Used (v .tree) n → (r : List ℕ) × Up (v .tree) (suc n) r × Told v n r
-    told n u = go (decLt n 4096)
+    told n u = go (decLt n nodesLimit)
       where
-        node : n < 4096 → {r : List ℕ} → Up (v .tree) (suc n) r → Told v n r
+        node : n < nodesLimit → {r : List ℕ} → Up (v .tree) (suc n) r → Told v n r
         node l (down {c = c} {r = p} w d y) = record { node = λ _. subst (λ (z : ℕ). Inner z p) (sym d) (inner n l (down w d y)); rule = λ k q. absurd (omega arith) }
 
-        hangs : (k : ℕ) → n ≡ 4096 + k → (r : List ℕ) × Up (v .tree) (suc n) r × Told v n r
+        hangs : (k : ℕ) → n ≡ nodesLimit + k → (r : List ℕ) × Up (v .tree) (suc n) r × Told v n r
         hangs k q =
             let w : taken v k ≡ true = ap (v .tree .used) (sym q) ∙ u in
             let x = right .tree .ways (endAt v k) (to-ends v (taken v) k w (let l = small n u in omega arith)) in (
               number v k ∷ reverse (form v k),
               subst (λ (z : ℕ). Up (v .tree) (suc z) (number v k ∷ reverse (form v k))) (sym q)
-                  (subst (λ (z : List ℕ). Up (v .tree) (suc (4096 + k)) z) (reverse-append (form v k) (number v k ∷ [])) x),
+                  (subst (λ (z : List ℕ). Up (v .tree) (suc (nodesLimit + k)) z) (reverse-append (form v k) (number v k ∷ [])) x),
               record {
                 node = λ l. absurd (omega arith);
                 rule = λ j d. let s : k ≡ j = omega arith in subst (λ (z : ℕ). Hangs v z (reverse (form v k))) s (record { right = right .records k w; is = sym (reverse-reverse (form v k)) });
               },
             )
 
-        go : Dec (n < 4096) → (r : List ℕ) × Up (v .tree) (suc n) r × Told v n r
+        go : Dec (n < nodesLimit) → (r : List ℕ) × Up (v .tree) (suc n) r × Told v n r
         go (yes l) = let q = tree .rooted n u in (q .0, q .1, node l (q .1))
-        go (no l) = hangs (n - 4096) (omega arith)
+        go (no l) = hangs (n - nodesLimit) (omega arith)
 
     pub right-ended : Ended (v .tree) Bare (Told v)
     right-ended = record { tree = tree; bare = bare; told = told }

@@ -7,6 +7,7 @@ ghost use mathlib.Core.Path.{_≡_};
 ghost use mathlib.Core.Bool.{false};
 ghost use Prim.Native.Nat.{_%_, _≤_, _<_};
 ghost use lib.ListN.{length, getD, take};
+ghost use Rattle.layout.specs.Layout.{mapWords, lastLink, bookWords};
 ghost use Rattle.passing.specs.Promises.{Checks};
 ghost use Rattle.passing.specs.State.{numbered, AtPlace, Sizes, Come, Pushed, Entered, Downed, Decides, RuleEntered, Ruled, Clear, Popped};
 use book::Book;
@@ -26,7 +27,7 @@ pub struct Point {
 
 // Does the word w of the node n fit below p, and is n left? Then it is taken.
 fn come(left: &mut [u64], w: u64, n: usize, p: usize, low: u64) -> bool
-    requires { ⌜ (length (now left) ≡ 72) × (n < 4608) ⌝ }
+    requires { ⌜ (length (now left) ≡ mapWords) × (n < lastLink) ⌝ }
     ensures { λ r. ⌜ Come (now (left .entry)) (now (left .exit)) w n p low r ⌝ }
 {
     if tree::parent_of(w) as usize != p {
@@ -71,7 +72,7 @@ struct Got {
 
 // The word of the node of forms that the link x leads to, a child of p with a cell of `low` at the least, which is left.
 fn enter(m: &[u64], left: &mut [u64], x: usize, p: usize, low: u64, depth: usize) -> Got
-    requires { ⌜ (length (now m) ≡ 12618) × (length (now left) ≡ 72) ⌝ }
+    requires { ⌜ (length (now m) ≡ bookWords) × (length (now left) ≡ mapWords) ⌝ }
     ensures { λ r. ⌜ Entered (now (m .entry)) (now (left .entry)) (now (left .exit)) x p low depth (r .word) (r .right) ⌝ }
 {
     if x == 0 {
@@ -83,7 +84,7 @@ fn enter(m: &[u64], left: &mut [u64], x: usize, p: usize, low: u64, depth: usize
     if 32 <= depth {
         return wrong();
     }
-    let w = m[72 + x];
+    let w = m[layout::LINKS_AT + x];
     if MARK < tree::cell_of(w) {
         return wrong();
     }
@@ -168,16 +169,16 @@ pub fn down(
 
 // The word of the rule that the link x leads to, a child of p with a number of `low` at the least, which is left.
 fn enter_rule(m: &[u64], left: &mut [u64], x: usize, p: usize, low: u64) -> Got
-    requires { ⌜ (length (now m) ≡ 12618) × (length (now left) ≡ 72) ⌝ }
+    requires { ⌜ (length (now m) ≡ bookWords) × (length (now left) ≡ mapWords) ⌝ }
     ensures { λ r. ⌜ RuleEntered (now (m .entry)) (now (left .entry)) (now (left .exit)) x p low (r .word) (r .right) ⌝ }
 {
     if x <= Book::NODES {
         return wrong();
     }
-    if tree::LAST < x {
+    if layout::LAST_LINK < x {
         return wrong();
     }
-    let w = m[72 + x];
+    let w = m[layout::LINKS_AT + x];
     if tree::first_of(w) != 0 {
         return wrong();
     }
@@ -217,7 +218,7 @@ pub fn rules(
         }
         let w = got.word;
         let number = tree::cell_of(w);
-        if !rule::is_rule(m, way, x - 4097, number, depth) {
+        if !rule::is_rule(m, way, x - layout::FIRST_RULE, number, depth) {
             return false;
         }
         x = tree::next_of(w) as usize;
@@ -229,13 +230,13 @@ pub fn rules(
 }
 
 // The words of the maps: in the beginning every node in use is left.
-fn maps(m: &[u64]) -> [u64; 72]
-    requires { ⌜ length (now m) ≡ 12618 ⌝ }
-    ensures { λ r. ⌜ r ≡ take 72 (now (m .entry)) ⌝ }
+fn maps(m: &[u64]) -> [u64; layout::MAP_WORDS]
+    requires { ⌜ length (now m) ≡ bookWords ⌝ }
+    ensures { λ r. ⌜ r ≡ take mapWords (now (m .entry)) ⌝ }
 {
-    let mut left = [0u64; 72];
+    let mut left = [0u64; layout::MAP_WORDS];
     let mut i: usize = 0;
-    while i < 72 {
+    while i < layout::MAP_WORDS {
         left[i] = m[i];
         i += 1;
     }
@@ -244,10 +245,10 @@ fn maps(m: &[u64]) -> [u64; 72]
 
 // Is no node left?
 fn is_clear(left: &[u64]) -> bool
-    requires { ⌜ length (now left) ≡ 72 ⌝ }
+    requires { ⌜ length (now left) ≡ mapWords ⌝ }
     ensures { λ r. ⌜ Decides (Clear (now (left .entry))) r ⌝ }
 {
-    let none = [0u64; 72];
+    let none = [0u64; layout::MAP_WORDS];
     bits::same(left, &none)
 }
 
@@ -273,7 +274,7 @@ pub fn passes(m: &[u64]) -> bool
         return false;
     }
     let mut left = maps(m);
-    let first = tree::first_of(m[72]) as usize;
+    let first = tree::first_of(m[layout::LINKS_AT]) as usize;
     if first == 0 {
         return is_clear(&left);
     }

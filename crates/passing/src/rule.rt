@@ -3,12 +3,16 @@ ghost use mathlib.Core.Path.{_≡_};
 ghost use mathlib.Core.Bool.{true};
 ghost use Prim.Native.Nat.{ℕ, _+_, _%_, _≤_, _<_};
 ghost use lib.ListN.{length, getD};
+ghost use Rattle.layout.specs.Layout.{rulesLimit, rulesAt, termWords, bookWords};
 ghost use Rattle.passing.specs.Promises.{IsWhole};
 ghost use Rattle.book.specs.Memory.{blankNumber};
 ghost use Rattle.tree.specs.Words.{cellOf};
 ghost use Rattle.passing.specs.State.{TermOf, Decides, PlainOf, TermDecided, RuleDecided};
 use term::reading;
 use term::reading::Reading;
+
+// How many rule numbers there are, as wide as the cell of a word.
+const NUMBERS: u64 = layout::RULE_NUMBERS as u64;
 
 // Do the cells begin with one whole term of this size?
 fn is_whole(cells: &[u16], size: usize) -> bool
@@ -38,7 +42,7 @@ fn same_blanks(cells: &[u16], way: &[u64], depth: usize) -> bool
 
 // Is the record a term of this length, with the blanks of the way?
 fn is_term(words: &[u64], way: &[u64], depth: usize) -> bool
-    requires { ⌜ (length (now words) ≡ 8) × (length (now way) ≡ 33) × (depth ≤ 32) ⌝ }
+    requires { ⌜ (length (now words) ≡ termWords) × (length (now way) ≡ 33) × (depth ≤ 32) ⌝ }
     ensures { λ r. ⌜ Decides (TermOf (now (words .entry)) (now (way .entry)) depth) r ⌝ }
 {
     if !bits::zeros_from(words, depth) {
@@ -53,7 +57,7 @@ fn is_term(words: &[u64], way: &[u64], depth: usize) -> bool
 
 // The last six words of a record as one, which is zero exactly if they all are.
 fn six(words: &[u64]) -> u64
-    requires { ⌜ length (now words) ≡ 8 ⌝ }
+    requires { ⌜ length (now words) ≡ termWords ⌝ }
     ensures { λ r. ⌜ (r ≡ 0 → (j : ℕ) → 2 ≤ j → getD (now (words .entry)) j 0 ≡ 0) ⌝ }
 {
     words[2] | words[3] | words[4] | words[5] | words[6] | words[7]
@@ -62,7 +66,7 @@ fn six(words: &[u64]) -> u64
 // Has the record just the cells of the way, eight at the most? The way has the last four cells of each beginning, the
 // latest lowest: the record begins with those of the first four, and the shift puts the last ones where a record has them.
 fn is_plain(words: &[u64], way: &[u64], depth: usize) -> bool
-    requires { ⌜ (length (now words) ≡ 8) × (length (now way) ≡ 33) ⌝ }
+    requires { ⌜ (length (now words) ≡ termWords) × (length (now way) ≡ 33) ⌝ }
     ensures { λ r. ⌜ (r ≡ true → PlainOf (now (words .entry)) (now (way .entry)) depth) ⌝ }
 {
     if 8 < depth {
@@ -87,7 +91,7 @@ fn is_plain(words: &[u64], way: &[u64], depth: usize) -> bool
 // Is the record right below a whole form? A term that has no variable twice is the most general one of its form: where it
 // is short it is known by its words, and its cells need no reading.
 fn is_record(words: &[u64], way: &[u64], depth: usize) -> bool
-    requires { ⌜ (length (now words) ≡ 8) × (length (now way) ≡ 33) × (depth ≤ 32) ⌝ }
+    requires { ⌜ (length (now words) ≡ termWords) × (length (now way) ≡ 33) × (depth ≤ 32) ⌝ }
     ensures { λ r. ⌜ TermDecided (now (words .entry)) (now (way .entry)) depth r ⌝ }
 {
     if is_plain(words, way, depth) {
@@ -98,19 +102,19 @@ fn is_record(words: &[u64], way: &[u64], depth: usize) -> bool
 
 // Is the rule at the place r right, with a term of the way's form?
 pub fn is_rule(m: &[u64], way: &[u64], r: usize, number: u64, depth: usize) -> bool
-    requires { ⌜ (length (now m) ≡ 12618) × (length (now way) ≡ 33) × (r < 512) × (depth ≤ 32) ⌝ }
-    requires { ⌜ number ≡ cellOf (getD (now m) (4169 + r) 0) ⌝ }
+    requires { ⌜ (length (now m) ≡ bookWords) × (length (now way) ≡ 33) × (r < rulesLimit) × (depth ≤ 32) ⌝ }
+    requires { ⌜ number ≡ cellOf (getD (now m) (rulesAt + r) 0) ⌝ }
     ensures { λ b. ⌜ RuleDecided (now (m .entry)) (now (way .entry)) r depth b ⌝ }
 {
-    if 4096 <= number {
+    if NUMBERS <= number {
         return false;
     }
-    let place = bits::field(&m[6986..8010], number as usize);
+    let place = bits::field(&m[layout::PLACES_AT..layout::PLACES_END], number as usize);
     if book::size_of(place) != r {
         return false;
     }
-    let at = 8011 + 9 * r;
-    let end = at + 8;
+    let at = layout::TERMS_AT + layout::RECORD_WORDS * r;
+    let end = at + layout::TERM_WORDS;
     if m[at - 1] != depth as u64 {
         return false;
     }

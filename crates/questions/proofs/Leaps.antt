@@ -5,6 +5,7 @@ use mathlib.Core.List.{List}
 use Prim.Native.Nat.{ℕ, zero, suc, _+_, _-_, _^_, _≤_, _<_}
 use native.Mathlib.Omega.{arith}
 use lib.ListN.{getD}
+use Rattle.layout.specs.Layout.{linksAt}
 use Rattle.tree.specs.Shape.{after, Used}
 use Rattle.tree.specs.Order.{ahead}
 use Rattle.tree.specs.Words.{cellOf, parentOf, nextOf}
@@ -22,10 +23,10 @@ pub record Leapt (ws : List ℕ) (cell link x r : ℕ) : Type 0 where
   pub less : size (trie (view ws .tree) r) < size (trie (view ws .tree) x)
 
 module _ (ws : List ℕ) (p : Passing ws) (all : (i : ℕ) → getD ws i 0 < 2 ^ 64) (cell link low b : ℕ) (ub : Used (view ws .tree) b) (free : (d : ℕ) → low ≤ d → d < view ws .tree .cell b → (d < 32768) × ¬ (d ≡ cell)) where
-  cell-is : (k : ℕ) → Used (view ws .tree) k → view ws .tree .cell k ≡ cellOf (getD ws (72 + suc k) 0)
+  cell-is : (k : ℕ) → Used (view ws .tree) k → view ws .tree .cell k ≡ cellOf (getD ws (linksAt + suc k) 0)
   cell-is k u = ap cellOf (word-of ws p k u)
 
-  next-is : (k : ℕ) → Used (view ws .tree) k → view ws .tree .next k ≡ nextOf (getD ws (72 + suc k) 0)
+  next-is : (k : ℕ) → Used (view ws .tree) k → view ws .tree .next k ≡ nextOf (getD ws (linksAt + suc k) 0)
   next-is k u = ap nextOf (word-of ws p k u)
 
   -- from k, which has the parent of b and a cell below its
@@ -60,7 +61,7 @@ pub up-to-it : (cell c : ℕ) → cell < 32768 → Reach cell c cell
 up-to-it cell c low = record { low = omega arith; between = λ k l h e. omega arith }
 
 -- a sign that leads further on
-pub leaps : (ws : List ℕ) (cell link x most r : ℕ) → Threaded ws x → ¬ (x ≡ 0) → ((i : ℕ) → getD ws i 0 < 2 ^ 64) → (c : ℕ) → c ≡ cellOf (getD ws (72 + x) 0) → Reach cell c most → Further (view ws .tree) (getD ws (72 + x) 0) most r
+pub leaps : (ws : List ℕ) (cell link x most r : ℕ) → Threaded ws x → ¬ (x ≡ 0) → ((i : ℕ) → getD ws i 0 < 2 ^ 64) → (c : ℕ) → c ≡ cellOf (getD ws (linksAt + x) 0) → Reach cell c most → Further (view ws .tree) (getD ws (linksAt + x) 0) most r
     → PassesBy ws cell link x → Leapt ws cell link x r
 leaps ws cell link zero most r t n all c ec reach f by = absurd (n refl)
 leaps ws cell link (suc k) most r t n all c ec reach f by =
@@ -77,7 +78,7 @@ leaps ws cell link (suc k) most r t n all c ec reach f by =
         (view ws .tree .cell (f .node)) k u (f .beside ∙ sym (ap parentOf (word-of ws (t .passing) k u))) (omega (arith, same)) (let h = f .further in omega (arith, same, ec)) (omega arith) by
 
 -- the next sibling, where it is passed by
-pub steps : (ws : List ℕ) (cell link x r : ℕ) → Threaded ws x → ¬ (x ≡ 0) → ((i : ℕ) → getD ws i 0 < 2 ^ 64) → (c : ℕ) → c ≡ cellOf (getD ws (72 + x) 0) → c < 32768 → ¬ (c ≡ cell) → r ≡ nextOf (getD ws (72 + x) 0) → PassesBy ws cell link x → Leapt ws cell link x r
+pub steps : (ws : List ℕ) (cell link x r : ℕ) → Threaded ws x → ¬ (x ≡ 0) → ((i : ℕ) → getD ws i 0 < 2 ^ 64) → (c : ℕ) → c ≡ cellOf (getD ws (linksAt + x) 0) → c < 32768 → ¬ (c ≡ cell) → r ≡ nextOf (getD ws (linksAt + x) 0) → PassesBy ws cell link x → Leapt ws cell link x r
 steps ws cell link zero r t n all c ec l d e by = absurd (n refl)
 steps ws cell link (suc k) r t n all c ec l d e by = subst (Leapt ws cell link (suc k)) (sym e) (record {
   threaded = record { passing = t .passing; used = λ y q. next-used ws (t .passing) k (t .used k refl) y q };

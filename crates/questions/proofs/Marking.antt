@@ -7,6 +7,7 @@ use Prim.Native.Nat.{ℕ, zero, suc, _+_, _^_, _≤_, _<_}
 use native.Mathlib.Omega.{arith}
 use native.Mathlib.Decide.{ℕ-discrete}
 use lib.ListN.{length, getD, drop}
+use Rattle.layout.specs.Layout.{ruleNumbers, linksAt}
 use Rattle.bits.specs.Numbers.{has, Member, NumberSet, Puts}
 use Rattle.term.specs.Cells.{Row, Blank, blankOf, blankForm}
 use Rattle.term.specs.Machine.{State, at, step, done}
@@ -70,7 +71,7 @@ pub siblings-none : (ws : List ℕ) → siblings ws 0 ≡ []
 unfolding siblings
 siblings-none ws = ap beside (tip-at ws)
 
-pub siblings-open : (ws : List ℕ) (words : (i : ℕ) → getD ws i 0 < 2 ^ 64) (x : ℕ) (t : Threaded ws x) (some : ¬ (x ≡ 0)) → siblings ws x ≡ n ws words x t some ∷ siblings ws (nextOf (getD ws (72 + x) 0))
+pub siblings-open : (ws : List ℕ) (words : (i : ℕ) → getD ws i 0 < 2 ^ 64) (x : ℕ) (t : Threaded ws x) (some : ¬ (x ≡ 0)) → siblings ws x ≡ n ws words x t some ∷ siblings ws (nextOf (getD ws (linksAt + x) 0))
 unfolding siblings
 siblings-open ws words x t some = ap beside (opened ws words x t some)
 
@@ -108,7 +109,7 @@ pub record Marking (ws marks₀ : List ℕ) (link : ℕ) (marks : List ℕ) (x :
   pub sofar : List ℕ
   pub marked : Marked ws marks₀ marks sofar
   pub total : sofar ++ siblings ws x ≡ siblings ws link
-  pub low : (n : ℕ) → List·Memᴰ n (siblings ws link) → view ws .tree .cell n < 4096
+  pub low : (n : ℕ) → List·Memᴰ n (siblings ws link) → view ws .tree .cell n < ruleNumbers
 
 pub begins : (ws marks : List ℕ) (link : ℕ) → Numbered ws link → NumberSet marks → Marking ws marks link marks link
 begins ws marks link a s = record { threaded = a .threaded; sofar = []; marked = marks-none ws marks s; total = refl; low = a .low }
@@ -116,7 +117,7 @@ begins ws marks link a s = record { threaded = a .threaded; sofar = []; marked =
 pub marks-all : (ws marks₀ : List ℕ) (link : ℕ) (marks : List ℕ) (x : ℕ) → Marking ws marks₀ link marks x → x ≡ 0 → Marked ws marks₀ marks (siblings ws link)
 marks-all ws marks₀ link marks x s z = subst (Marked ws marks₀ marks) (sym (append-nil (s .sofar)) ∙ ap (λ (l : List ℕ). s .sofar ++ l) (sym (siblings-none ws) ∙ ap (siblings ws) (sym z)) ∙ s .total) (s .marked)
 
-module _ (ws : List ℕ) (words : (i : ℕ) → getD ws i 0 < 2 ^ 64) (marks₀ : List ℕ) (link : ℕ) (marks : List ℕ) (x : ℕ) (s : Marking ws marks₀ link marks x) (some : ¬ (x ≡ 0)) (c : ℕ) (ec : c ≡ cellOf (getD ws (72 + x) 0)) where
+module _ (ws : List ℕ) (words : (i : ℕ) → getD ws i 0 < 2 ^ 64) (marks₀ : List ℕ) (link : ℕ) (marks : List ℕ) (x : ℕ) (s : Marking ws marks₀ link marks x) (some : ¬ (x ≡ 0)) (c : ℕ) (ec : c ≡ cellOf (getD ws (linksAt + x) 0)) where
   abbrev this : ℕ
   this = n ws words x (s .threaded) some
 
@@ -124,13 +125,13 @@ module _ (ws : List ℕ) (words : (i : ℕ) → getD ws i 0 < 2 ^ 64) (marks₀ 
   is-cell = cell-is ws words x (s .threaded) some ∙ sym ec
 
   -- with this one
-  more : (s .sofar ++ (this ∷ [])) ++ siblings ws (nextOf (getD ws (72 + x) 0)) ≡ siblings ws link
+  more : (s .sofar ++ (this ∷ [])) ++ siblings ws (nextOf (getD ws (linksAt + x) 0)) ≡ siblings ws link
   more = append-assoc (s .sofar) (this ∷ []) _ ∙ ap (λ (l : List ℕ). s .sofar ++ l) (sym (siblings-open ws words x (s .threaded) some)) ∙ s .total
 
-  pub number-low : c < 4096
-  number-low = subst (λ (k : ℕ). k < 4096) is-cell (s .low this (subst (List·Memᴰ this) more (Memᴰ·append-left _ (Memᴰ·append-right (s .sofar) (List·Memᴰ·head refl)))))
+  pub number-low : c < ruleNumbers
+  number-low = subst (λ (k : ℕ). k < ruleNumbers) is-cell (s .low this (subst (List·Memᴰ this) more (Memᴰ·append-left _ (Memᴰ·append-right (s .sofar) (List·Memᴰ·head refl)))))
 
-  pub marks-next : (marks′ : List ℕ) → Puts marks marks′ c → (y : ℕ) → y ≡ nextOf (getD ws (72 + x) 0) → Marking ws marks₀ link marks′ y
+  pub marks-next : (marks′ : List ℕ) → Puts marks marks′ c → (y : ℕ) → y ≡ nextOf (getD ws (linksAt + x) 0) → Marking ws marks₀ link marks′ y
   marks-next marks′ put y e = subst (Marking ws marks₀ link marks′) (sym e) (record {
     threaded = beside-threaded ws x (s .threaded) some;
     sofar = s .sofar ++ (this ∷ []);
@@ -139,5 +140,5 @@ module _ (ws : List ℕ) (words : (i : ℕ) → getD ws i 0 < 2 ^ 64) (marks₀ 
     low = s .low;
   })
 
-  pub fewer : (y : ℕ) → y ≡ nextOf (getD ws (72 + x) 0) → sizeAt ws y < sizeAt ws x
+  pub fewer : (y : ℕ) → y ≡ nextOf (getD ws (linksAt + x) 0) → sizeAt ws y < sizeAt ws x
   fewer y e = let z = sizes ws words x (s .threaded) some in let a = ap (sizeAt ws) e in omega arith

@@ -9,6 +9,7 @@ use native.Mathlib.Omega.{arith}
 use native.Mathlib.Decide.{ℕ-discrete}
 use lib.ListN.{length, getD, set, length-set}
 use lib.Seq.{getD-set-same, getD-set-other, getD-take}
+use Rattle.layout.specs.Layout.{ruleNumbers, nodesLimit, linksAt, lastLink, treeWords}
 use Rattle.bits.specs.Numbers.{Member, NumberSet}
 use Rattle.term.specs.Cells.{Terms, blankForm}
 use Rattle.term.specs.Machine.{at, run, done}
@@ -75,7 +76,7 @@ pub record Book (ws q : List ℕ) : Type 0 where
   pub words : (i : ℕ) → getD ws i 0 < 2 ^ 64
 
 module _ (fq fr : Bool) (ws q : List ℕ) (b : Book ws q) where
-  low : (n : ℕ) → Used (view ws .tree) n → n < 4608
+  low : (n : ℕ) → Used (view ws .tree) n → n < lastLink
   low = threads.low ws (b .passing)
 
   wq : Terms 1 (blankForm q)
@@ -102,9 +103,9 @@ module _ (fq fr : Bool) (ws q : List ℕ) (b : Book ws q) where
   abbrev pub rootOf : ℕ → Point
   rootOf first = record { link = first; skip = 0; place = 0 }
 
-  module _ (first : ℕ) (e : first ≡ firstOf (getD ws 72 0)) where
+  module _ (first : ℕ) (e : first ≡ firstOf (getD ws linksAt 0)) where
     first-is : first ≡ view ws .tree .first 0
-    first-is = e ∙ ap firstOf (sym (getD-take 4681 ws 72 0 (omega arith)))
+    first-is = e ∙ ap firstOf (sym (getD-take treeWords ws linksAt 0 (omega arith)))
 
     pub root-hits : hitsAt fq fr ws q (record { link = first; skip = 0; place = 0 }) ≡ all
     unfolding hitsAt all
@@ -122,7 +123,7 @@ module _ (fq fr : Bool) (ws q : List ℕ) (b : Book ws q) where
       few = (let h = root-low in omega arith);
       low = λ n i.
           let x = found-rule fq fr (blankForm q) wq (view ws) low (b .passing .right) bound n (subst (List·Memᴰ n) root-hits i) in
-          subst (λ (c : ℕ). c < 4096) (ap (view ws .tree .cell) (sym (x .1))) (b .passing .right .records (x .0) (x .2) .low);
+          subst (λ (c : ℕ). c < ruleNumbers) (ap (view ws .tree .cell) (sym (x .1))) (b .passing .right .records (x .0) (x .2) .low);
     }
 
     pub starts : (marks : List ℕ) (l : List Point) → NumberSet marks → length l ≡ 36 → pointAt l 0 ≡ record { link = first; skip = 0; place = 0 } → Searching marks marks l 1
@@ -159,7 +160,7 @@ module _ (fq fr : Bool) (ws q : List ℕ) (b : Book ws q) where
       of k (inl x) = inl x
       of k (inr x) =
           let a = holds-at (view ws) k (x .term) (x .held) in
-          inr (4096 + a .place, subst (List·Memᴰ (4096 + a .place)) (sym whole) (rule-found fq fr (blankForm q) wq (view ws) low (b .passing .right) bound (a .place) (a .used) (ap (λ (t : List ℕ). done (run fq fr (at 0 (blankForm q)) (blankForm t))) (a .is) ∙ x .accepted)), a .has)
+          inr (nodesLimit + a .place, subst (List·Memᴰ (nodesLimit + a .place)) (sym whole) (rule-found fq fr (blankForm q) wq (view ws) low (b .passing .right) bound (a .place) (a .used) (ap (λ (t : List ℕ). done (run fq fr (at 0 (blankForm q)) (blankForm t))) (a .is) ∙ x .accepted)), a .has)
 
 -- the loop's invariant
 abbrev pub Loop : Bool → Bool → (ws q marks₀ marks : List ℕ) → List Point → ℕ → Type 0
@@ -169,7 +170,7 @@ Loop fq fr ws q marks₀ marks l depth = (b : Book ws q) × Searching fq fr ws q
 pub starts-out : (fq fr : Bool) (ws q marks : List ℕ) (l : List Point) → Passing ws → IsTerm q → NumberSet marks → Rooted ws l → Loop fq fr ws q marks marks l 1
 starts-out fq fr ws q marks l pass whole set r =
     let b : Book ws q = record { passing = pass; whole = whole; words = r .root .words } in
-    (b, starts fq fr ws q b (firstOf (getD ws 72 0)) refl marks l set (r .long) (r .root .is))
+    (b, starts fq fr ws q b (firstOf (getD ws linksAt 0)) refl marks l set (r .long) (r .root .is))
 
 -- The loop after a turn: its invariant holds again, and there is less left.
 pub record Again (fq fr : Bool) (ws q marks₀ : List ℕ) (l : List Point) (depth : ℕ) (marks′ : List ℕ) (l′ : List Point) (depth′ : ℕ) : Type 0 where

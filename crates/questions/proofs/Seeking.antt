@@ -8,6 +8,7 @@ use native.Mathlib.Omega.{arith}
 use native.Mathlib.Decide.{ℕ-discrete, decLt}
 use borrow.Author.Tests.{lt-ltb, le-ltb, ne-eqb}
 use lib.ListN.{length, getD, drop}
+use Rattle.layout.specs.Layout.{linksAt}
 use Rattle.term.specs.Cells.{Cell, vari, symb, star, Row, Blank, pickCell, arity, blankOf, blankForm}
 use Rattle.term.specs.Machine.{failed, at, past, meet, onlyIf, step}
 use Rattle.term.specs.Steps.{spot}
@@ -88,7 +89,7 @@ threaded ws cell link x t (pass-on {x = y} by some low other) = beside-threaded 
 
 -- Behind the symbol wanted all siblings are above it, and the machine fails at each of them.
 module _ (fq : Bool) (ws q : List ℕ) (place link cell : ℕ) (small : cell < 32768) (d : Decisive fq q place cell) (words : (i : ℕ) → getD ws i 0 < 2 ^ 64) where
-  to-the-end : (fuel x : ℕ) → size (trie (view ws .tree) x) ≤ fuel → Threaded ws x → (¬ (x ≡ 0) → cell < cellOf (getD ws (72 + x) 0)) → Skips fq false ws q place link x → Skips fq false ws q place link 0
+  to-the-end : (fuel x : ℕ) → size (trie (view ws .tree) x) ≤ fuel → Threaded ws x → (¬ (x ≡ 0) → cell < cellOf (getD ws (linksAt + x) 0)) → Skips fq false ws q place link x → Skips fq false ws q place link 0
   to-the-end zero x s t above k = go (ℕ-discrete x 0)
     where
       go : Dec (x ≡ 0) → Skips fq false ws q place link 0
@@ -96,12 +97,12 @@ module _ (fq : Bool) (ws q : List ℕ) (place link cell : ℕ) (small : cell < 3
       go (no nz) = absurd (let l = beside-smaller ws x t nz words in omega arith)
   to-the-end (suc fuel) x s t above k = go (λ y. to-the-end fuel y) (ℕ-discrete x 0)
     where
-      go : ((y : ℕ) → size (trie (view ws .tree) y) ≤ fuel → Threaded ws y → (¬ (y ≡ 0) → cell < cellOf (getD ws (72 + y) 0)) → Skips fq false ws q place link y → Skips fq false ws q place link 0) → Dec (x ≡ 0) → Skips fq false ws q place link 0
+      go : ((y : ℕ) → size (trie (view ws .tree) y) ≤ fuel → Threaded ws y → (¬ (y ≡ 0) → cell < cellOf (getD ws (linksAt + y) 0)) → Skips fq false ws q place link y → Skips fq false ws q place link 0) → Dec (x ≡ 0) → Skips fq false ws q place link 0
       go ih (yes z) = subst (Skips fq false ws q place link) z k
       go ih (no nz) =
           let a = above nz in
-          ih (nextOf (getD ws (72 + x) 0)) (let l = beside-smaller ws x t nz words in omega arith) (beside-threaded ws x t nz) (λ ny. let b = beside-above ws x t nz ny in omega arith)
-          (skip-on k nz (d .any small (cellOf (getD ws (72 + x) 0)) (λ e. absurd (omega arith))))
+          ih (nextOf (getD ws (linksAt + x) 0)) (let l = beside-smaller ws x t nz words in omega arith) (beside-threaded ws x t nz) (λ ny. let b = beside-above ws x t nz ny in omega arith)
+          (skip-on k nz (d .any small (cellOf (getD ws (linksAt + x) 0)) (λ e. absurd (omega arith))))
 
 pub seeking : (fq fr : Bool) (ws q : List ℕ) (place link cell last r : ℕ) → ((i : ℕ) → getD ws i 0 < 2 ^ 64) → Threaded ws link → ¬ (cell ≡ 65536) → Decisive fq q place cell
     → LastWanted fr cell last → Sought ws cell last link r → Skips fq fr ws q place link r

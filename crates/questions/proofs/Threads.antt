@@ -6,6 +6,7 @@ use native.Mathlib.Omega.{arith}
 use native.Mathlib.Decide.{decLt}
 use lib.ListN.{length, getD, take, length-take, List·getD-eq-default}
 use lib.Seq.{getD-take}
+use Rattle.layout.specs.Layout.{linksAt, lastLink, treeWords}
 use Rattle.tree.specs.Shape.{after, Used, Tree}
 use Rattle.tree.specs.Words.{cellOf, firstOf, nextOf, word}
 use Rattle.tree.specs.Rows.{passes-tree}
@@ -22,46 +23,46 @@ module _ (ws : List ℕ) (p : Passing ws) where
   abbrev pub tree : Tree (view ws .tree)
   tree = passes-tree (p .right .tree)
 
-  tree-long : length (take 4681 ws) ≡ 4681
-  tree-long = omega (arith, length-take 4681 ws, p .size)
+  tree-long : length (take treeWords ws) ≡ treeWords
+  tree-long = omega (arith, length-take treeWords ws, p .size)
 
-  pub low : (n : ℕ) → Used (view ws .tree) n → n < 4608
-  low n u = used-low (take 4681 ws) tree-long n u
+  pub low : (n : ℕ) → Used (view ws .tree) n → n < lastLink
+  low n u = used-low (take treeWords ws) tree-long n u
 
   pub bound : ((i : ℕ) → getD ws i 0 < 2 ^ 64) → Bounded (view ws .tree)
-  bound all = bounded (take 4681 ws) tree-long (λ l. words (72 + l)) _ (p .right .tree) (rows-short (hanging (view ws) low (p .right)))
+  bound all = bounded (take treeWords ws) tree-long (λ l. words (linksAt + l)) _ (p .right .tree) (rows-short (hanging (view ws) low (p .right)))
     where
-      words : (i : ℕ) → getD (take 4681 ws) i 0 < 2 ^ 64
-      words i = go (decLt i 4681)
+      words : (i : ℕ) → getD (take treeWords ws) i 0 < 2 ^ 64
+      words i = go (decLt i treeWords)
         where
-          go : Dec (i < 4681) → getD (take 4681 ws) i 0 < 2 ^ 64
-          go (yes h) = subst (λ (x : ℕ). x < 2 ^ 64) (sym (getD-take 4681 ws i 0 h)) (all i)
-          go (no h) = subst (λ (x : ℕ). x < 2 ^ 64) (sym (List·getD-eq-default (take 4681 ws) 0 (omega (arith, tree-long)))) (lib.Dec.lit< tt)
+          go : Dec (i < treeWords) → getD (take treeWords ws) i 0 < 2 ^ 64
+          go (yes h) = subst (λ (x : ℕ). x < 2 ^ 64) (sym (getD-take treeWords ws i 0 h)) (all i)
+          go (no h) = subst (λ (x : ℕ). x < 2 ^ 64) (sym (List·getD-eq-default (take treeWords ws) 0 (omega (arith, tree-long)))) (lib.Dec.lit< tt)
 
   -- the word of a used node
-  pub word-of : (n : ℕ) → Used (view ws .tree) n → word (take 4681 ws) (suc n) ≡ getD ws (72 + suc n) 0
-  word-of n u = let l = low n u in getD-take 4681 ws (72 + suc n) 0 (omega arith)
+  pub word-of : (n : ℕ) → Used (view ws .tree) n → word (take treeWords ws) (suc n) ≡ getD ws (linksAt + suc n) 0
+  word-of n u = let l = low n u in getD-take treeWords ws (linksAt + suc n) 0 (omega arith)
 
-  next-is : (n : ℕ) → Used (view ws .tree) n → view ws .tree .next n ≡ nextOf (getD ws (72 + suc n) 0)
+  next-is : (n : ℕ) → Used (view ws .tree) n → view ws .tree .next n ≡ nextOf (getD ws (linksAt + suc n) 0)
   next-is n u = ap nextOf (word-of n u)
 
-  pub next-used : (n : ℕ) → Used (view ws .tree) n → (y : ℕ) → nextOf (getD ws (72 + suc n) 0) ≡ suc y → Used (view ws .tree) y
+  pub next-used : (n : ℕ) → Used (view ws .tree) n → (y : ℕ) → nextOf (getD ws (linksAt + suc n) 0) ≡ suc y → Used (view ws .tree) y
   next-used n u y e = tree .goes (after n) u (next-is n u ∙ e) .used
 
   -- siblings ascend
-  pub next-above : (n : ℕ) → Used (view ws .tree) n → (y : ℕ) → nextOf (getD ws (72 + suc n) 0) ≡ suc y → cellOf (getD ws (72 + suc n) 0) < cellOf (getD ws (72 + suc y) 0)
+  pub next-above : (n : ℕ) → Used (view ws .tree) n → (y : ℕ) → nextOf (getD ws (linksAt + suc n) 0) ≡ suc y → cellOf (getD ws (linksAt + suc n) 0) < cellOf (getD ws (linksAt + suc y) 0)
   next-above n u y e =
       let f = tree .goes (after n) u (next-is n u ∙ e) in
       let a = f .above in
       omega (arith, ap cellOf (word-of n u), ap cellOf (word-of y (f .used)))
 
-  pub next-less : ((i : ℕ) → getD ws i 0 < 2 ^ 64) → (n : ℕ) → Used (view ws .tree) n → size (trie (view ws .tree) (nextOf (getD ws (72 + suc n) 0))) < size (trie (view ws .tree) (suc n))
+  pub next-less : ((i : ℕ) → getD ws i 0 < 2 ^ 64) → (n : ℕ) → Used (view ws .tree) n → size (trie (view ws .tree) (nextOf (getD ws (linksAt + suc n) 0))) < size (trie (view ws .tree) (suc n))
   next-less all n u =
       let o = ap size (opens (view ws .tree) tree (bound all) n u) in
       let e = ap (λ (x : ℕ). size (trie (view ws .tree) x)) (next-is n u) in
       omega (arith, o, e)
 
-  pub child-less : ((i : ℕ) → getD ws i 0 < 2 ^ 64) → (n : ℕ) → Used (view ws .tree) n → size (trie (view ws .tree) (firstOf (getD ws (72 + suc n) 0))) < size (trie (view ws .tree) (suc n))
+  pub child-less : ((i : ℕ) → getD ws i 0 < 2 ^ 64) → (n : ℕ) → Used (view ws .tree) n → size (trie (view ws .tree) (firstOf (getD ws (linksAt + suc n) 0))) < size (trie (view ws .tree) (suc n))
   child-less all n u =
       let o = ap size (opens (view ws .tree) tree (bound all) n u) in
       let e = ap (λ (x : ℕ). size (trie (view ws .tree) x)) (ap firstOf (word-of n u)) in
@@ -76,22 +77,22 @@ module _ (ws : List ℕ) (x : ℕ) (t : Threaded ws x) (some : ¬ (x ≡ 0)) whe
   unfolding n
   is = omega arith
 
-  pub in-tree : x ≤ 4608
+  pub in-tree : x ≤ lastLink
   in-tree = let l = low ws (t .passing) n (t .used n is) in omega (arith, is)
 
-  pub beside-threaded : Threaded ws (nextOf (getD ws (72 + x) 0))
+  pub beside-threaded : Threaded ws (nextOf (getD ws (linksAt + x) 0))
   beside-threaded = record {
     passing = t .passing;
-    used = λ y e. next-used ws (t .passing) n (t .used n is) y (ap (λ (k : ℕ). nextOf (getD ws (72 + k) 0)) (sym is) ∙ e);
+    used = λ y e. next-used ws (t .passing) n (t .used n is) y (ap (λ (k : ℕ). nextOf (getD ws (linksAt + k) 0)) (sym is) ∙ e);
   }
 
-  pub beside-smaller : ((i : ℕ) → getD ws i 0 < 2 ^ 64) → size (trie (view ws .tree) (nextOf (getD ws (72 + x) 0))) < size (trie (view ws .tree) x)
+  pub beside-smaller : ((i : ℕ) → getD ws i 0 < 2 ^ 64) → size (trie (view ws .tree) (nextOf (getD ws (linksAt + x) 0))) < size (trie (view ws .tree) x)
   beside-smaller all =
-      subst (λ (k : ℕ). size (trie (view ws .tree) (nextOf (getD ws (72 + k) 0))) < size (trie (view ws .tree) k)) (sym is) (next-less ws (t .passing) all n (t .used n is))
+      subst (λ (k : ℕ). size (trie (view ws .tree) (nextOf (getD ws (linksAt + k) 0))) < size (trie (view ws .tree) k)) (sym is) (next-less ws (t .passing) all n (t .used n is))
 
-  pub beside-above : ¬ (nextOf (getD ws (72 + x) 0) ≡ 0) → cellOf (getD ws (72 + x) 0) < cellOf (getD ws (72 + nextOf (getD ws (72 + x) 0)) 0)
+  pub beside-above : ¬ (nextOf (getD ws (linksAt + x) 0) ≡ 0) → cellOf (getD ws (linksAt + x) 0) < cellOf (getD ws (linksAt + nextOf (getD ws (linksAt + x) 0)) 0)
   beside-above nz =
-      let y : ℕ = nextOf (getD ws (72 + x) 0) - 1 in
-      let ey : nextOf (getD ws (72 + x) 0) ≡ suc y = omega arith in
-      subst (λ (k : ℕ). cellOf (getD ws (72 + x) 0) < cellOf (getD ws (72 + k) 0)) (sym ey)
-      (subst (λ (k : ℕ). cellOf (getD ws (72 + k) 0) < cellOf (getD ws (72 + suc y) 0)) (sym is) (next-above ws (t .passing) n (t .used n is) y (ap (λ (k : ℕ). nextOf (getD ws (72 + k) 0)) (sym is) ∙ ey)))
+      let y : ℕ = nextOf (getD ws (linksAt + x) 0) - 1 in
+      let ey : nextOf (getD ws (linksAt + x) 0) ≡ suc y = omega arith in
+      subst (λ (k : ℕ). cellOf (getD ws (linksAt + x) 0) < cellOf (getD ws (linksAt + k) 0)) (sym ey)
+      (subst (λ (k : ℕ). cellOf (getD ws (linksAt + k) 0) < cellOf (getD ws (linksAt + suc y) 0)) (sym is) (next-above ws (t .passing) n (t .used n is) y (ap (λ (k : ℕ). nextOf (getD ws (linksAt + k) 0)) (sym is) ∙ ey)))

@@ -3,6 +3,7 @@ use mathlib.Core.Path.{_≡_}
 use mathlib.Core.List.{List, [], _∷_}
 use mathlib.Core.Bool.{Bool, true, false}
 use Prim.Native.Nat.{ℕ, _<_}
+use Rattle.layout.specs.Layout.{ruleNumbers}
 use Rattle.term.specs.Cells.{blankForm}
 use Rattle.term.specs.Questions.{Mode, Answers}
 use Rattle.term.specs.Machine.{accepts}
@@ -36,11 +37,11 @@ answering mode question (rule term) k = keepIf (accepts mode (blankForm question
 
 -- The numbers that a question lists.
 unfoldable pub answers : Mode → List ℕ → Rules → List ℕ
-answers mode question rules = each (λ k. answering mode question (rules k) k) 4096 0
+answers mode question rules = each (λ k. answering mode question (rules k) k) ruleNumbers 0
 
 -- What it means that a number is listed: there is a rule under it that is in the relation with the question.
 pub record Listed (mode : Mode) (question : List ℕ) (rules : Rules) (k : ℕ) : Type 0 where
-  pub low : k < 4096
+  pub low : k < ruleNumbers
   pub term : List ℕ
   pub held : rules k ≡ rule term
   pub answers : Answers mode (blankForm question) (blankForm term)

@@ -3,6 +3,7 @@ use mathlib.Core.Path.{_≡_, refl, sym, ap, _∙_}
 use mathlib.Core.List.{List, [], _∷_, append-nil, List·Memᴰ}
 use Prim.Native.Nat.{ℕ, suc, _<_}
 use native.Mathlib.Omega.{arith}
+use Rattle.layout.specs.Layout.{ruleNumbers}
 use Rattle.term.specs.Cells.{Row, Blank, blank, vari, symb, star, Terms, none, more, blankForm}
 use Rattle.term.specs.Questions.{variants, instances, generalisations, unifiables, Filling, fill, Answers}
 use Rattle.book.specs.Rules.{Rules, rule}
@@ -52,7 +53,7 @@ generalises (symb c ∷ r) w a = absurd (differ (a .1))
     differ : {s : Row Blank} → ¬ (symb c ∷ s ≡ star ∷ [])
     differ e = let z : _≡_ {A = ℕ} 0 1 = cc in omega arith
 
-module _ (rules : Rules) (wr : WholeRules rules) (k : ℕ) (t : List ℕ) (low : k < 4096) (held : rules k ≡ rule t) where
+module _ (rules : Rules) (wr : WholeRules rules) (k : ℕ) (t : List ℕ) (low : k < ruleNumbers) (held : rules k ≡ rule t) where
   pub all-instances : List·Memᴰ k (answers instances bare rules)
   all-instances = lists instances bare rules bare-term wr k .1 (record { low = low; term = t; held = held; answers = instance-of (blankForm t) (term-form t (wr k t held)) })
 

@@ -8,6 +8,7 @@ use native.Mathlib.Omega.{arith}
 use lib.Dec.{T}
 use lib.ListN.{length, length-append}
 use lib.Seq.{take-length}
+use Rattle.layout.specs.Layout.{ruleNumbers}
 use Rattle.term.specs.Cells.{Terms, blankForm}
 use Rattle.term.specs.Questions.{Mode, Answers, instances, generalisations}
 use Rattle.term.specs.Machine.{accepts}
@@ -39,20 +40,20 @@ module _ (mode : Mode) (q : List ℕ) where
   of-held (rule t) k j i = let x = kept (accepts mode (blankForm q) (blankForm t)) k j i in (x .0, (t, refl, x .1))
 
   -- by the machine
-  pub accepted : (rules : Rules) (k : ℕ) → List·Memᴰ k (answers mode q rules) ↔ ((k < 4096) × ((t : List ℕ) × (rules k ≡ rule t) × T (accepts mode (blankForm q) (blankForm t))))
+  pub accepted : (rules : Rules) (k : ℕ) → List·Memᴰ k (answers mode q rules) ↔ ((k < ruleNumbers) × ((t : List ℕ) × (rules k ≡ rule t) × T (accepts mode (blankForm q) (blankForm t))))
   unfolding answers
   accepted rules k = (to, of)
     where
-      to : List·Memᴰ k (each (λ j. answering mode q (rules j) j) 4096 0) → (k < 4096) × ((t : List ℕ) × (rules k ≡ rule t) × T (accepts mode (blankForm q) (blankForm t)))
+      to : List·Memᴰ k (each (λ j. answering mode q (rules j) j) ruleNumbers 0) → (k < ruleNumbers) × ((t : List ℕ) × (rules k ≡ rule t) × T (accepts mode (blankForm q) (blankForm t)))
       to i =
-          let g = of-each (λ j. answering mode q (rules j) j) 4096 0 i in
+          let g = of-each (λ j. answering mode q (rules j) j) ruleNumbers 0 i in
           let x = of-held (rules (g .at)) (g .at) k (g .among) in (
             (let b = g .below in let e = x .0 in omega arith),
             (x .1 .0, ap rules (x .0) ∙ x .1 .1, x .1 .2),
           )
 
-      of : (k < 4096) × ((t : List ℕ) × (rules k ≡ rule t) × T (accepts mode (blankForm q) (blankForm t))) → List·Memᴰ k (each (λ j. answering mode q (rules j) j) 4096 0)
-      of x = to-each (λ j. answering mode q (rules j) j) 4096 0
+      of : (k < ruleNumbers) × ((t : List ℕ) × (rules k ≡ rule t) × T (accepts mode (blankForm q) (blankForm t))) → List·Memᴰ k (each (λ j. answering mode q (rules j) j) ruleNumbers 0)
+      of x = to-each (λ j. answering mode q (rules j) j) ruleNumbers 0
           (record {
             at = k;
             from = omega arith;
@@ -103,7 +104,7 @@ module _ (mode : Mode) (q : List ℕ) where
 
   pub ordered : (rules : Rules) → Ordered (answers mode q rules)
   unfolding answers
-  ordered rules = ordered-each rules 4096 0
+  ordered rules = ordered-each rules ruleNumbers 0
 
 -- A list never has more numbers than there are rules.
 shorter : {A B : Type 0} (f : ℕ → List A) (g : ℕ → List B) → ((j : ℕ) → length (f j) ≤ length (g j)) → (n k : ℕ) → length (each f n k) ≤ length (each g n k)
@@ -115,7 +116,7 @@ shorter f g h (suc n) k =
 
 pub never-more : (mode : Mode) (q : List ℕ) (rules : Rules) → length (answers mode q rules) ≤ ruleCount rules
 unfolding answers
-never-more mode q rules = shorter (λ k. answering mode q (rules k) k) (λ k. termsOf (rules k)) (λ k. one k (rules k)) 4096 0
+never-more mode q rules = shorter (λ k. answering mode q (rules k) k) (λ k. termsOf (rules k)) (λ k. one k (rules k)) ruleNumbers 0
   where
     kept-one : (b : Bool) (k : ℕ) → length (keepIf b k) ≤ 1
     kept-one true k = omega arith

@@ -6,6 +6,7 @@ use mathlib.Core.Bool.{Bool, true, false}
 use Prim.Native.Nat.{ℕ, zero, suc, _+_, _-_, _≤_, _<_}
 use native.Mathlib.Omega.{arith}
 use lib.ListN.{length, length-append}
+use Rattle.layout.specs.Layout.{ruleNumbers}
 use Rattle.bits.specs.Numbers.{has, Member}
 use Rattle.term.specs.Cells.{blankForm}
 use Rattle.term.specs.Questions.{Mode}
@@ -67,9 +68,9 @@ is false true f g = absurd (true≢false (g refl) refl)
 is false false f g = refl
 
 -- and where the marks are those of the rules that answer, they are the answers
-pub numbers-answers : (mode : Mode) (ws q marks : List ℕ) → Asked (fillsQuestion mode) (fillsRule mode) ws q marks → numbers (has marks) 4096 ≡ answers mode q (rulesIn ws)
+pub numbers-answers : (mode : Mode) (ws q marks : List ℕ) → Asked (fillsQuestion mode) (fillsRule mode) ws q marks → numbers (has marks) ruleNumbers ≡ answers mode q (rulesIn ws)
 unfolding answers
-numbers-answers mode ws q marks a = each-same (λ k. keepIf (has marks k) k) (λ k. answering mode q (rulesIn ws k) k) 4096 0 (λ k x y. same k (rulesIn ws k) refl)
+numbers-answers mode ws q marks a = each-same (λ k. keepIf (has marks k) k) (λ k. answering mode q (rulesIn ws k) k) ruleNumbers 0 (λ k x y. same k (rulesIn ws k) refl)
   where
     off : (b : Bool) → ¬ (b ≡ true) → b ≡ false
     off true n = absurd (n refl)
@@ -84,7 +85,7 @@ numbers-answers mode ws q marks a = each-same (λ k. keepIf (has marks k) k) (λ
 
 -- Demand 2 for a book: what is listed is each rule that is in the relation with the question, and no other.
 pub exactly : (mode : Mode) (ws q marks : List ℕ) → Passing ws → IsTerm q → Asked (fillsQuestion mode) (fillsRule mode) ws q marks
-    → (k : ℕ) → List·Memᴰ k (numbers (has marks) 4096) ↔ Listed mode q (rulesIn ws) k
+    → (k : ℕ) → List·Memᴰ k (numbers (has marks) ruleNumbers) ↔ Listed mode q (rulesIn ws) k
 exactly mode ws q marks p w a k =
     let same = numbers-answers mode ws q marks a in
     let l = lists mode q (rulesIn ws) w (limited ws p .whole) k in
@@ -95,5 +96,5 @@ pub asked-once : (fq fr : Bool) (ws q a b : List ℕ) → Asked fq fr ws q a →
 asked-once fq fr ws q a b x y k = is (has a k) (has b k) (λ m. y k .1 (x k .0 m)) (λ m. x k .1 (y k .0 m))
 
 pub asked-alike : (mode : Mode) (ws vs q a b : List ℕ) → rulesIn ws ≡ rulesIn vs → Asked (fillsQuestion mode) (fillsRule mode) ws q a → Asked (fillsQuestion mode) (fillsRule mode) vs q b
-    → numbers (has a) 4096 ≡ numbers (has b) 4096
+    → numbers (has a) ruleNumbers ≡ numbers (has b) ruleNumbers
 asked-alike mode ws vs q a b e x y = numbers-answers mode ws q a x ∙ ap (answers mode q) e ∙ sym (numbers-answers mode vs q b y)

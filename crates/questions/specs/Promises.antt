@@ -5,6 +5,7 @@ use mathlib.Core.List.{List, [], _∷_, _++_, List·Memᴰ}
 use mathlib.Core.Bool.{Bool, true, false}
 use Prim.Native.Nat.{ℕ, suc, _+_, _-_, _*_, _^_, _≤_, _<_}
 use lib.ListN.{length, getD, drop}
+use Rattle.layout.specs.Layout.{ruleNumbers, linksAt, lastLink}
 use Rattle.bits.specs.Numbers.{has, Member, NumberSet}
 use Rattle.term.specs.Cells.{arity, blankOf, blankForm}
 use Rattle.term.specs.Machine.{failed, at, run, done}
@@ -37,7 +38,7 @@ pub record Threaded (ws : List ℕ) (link : ℕ) : Type 0 where
 -- From the link on, sibling by sibling, to x: each that is passed is a symbol, and not the one with the cell.
 pub data PassesBy (ws : List ℕ) (cell link : ℕ) : ℕ → Type 0 where
   start : PassesBy ws cell link link
-  pass-on : {x : ℕ} → PassesBy ws cell link x → ¬ (x ≡ 0) → cellOf (getD ws (72 + x) 0) < 32768 → ¬ (cellOf (getD ws (72 + x) 0) ≡ cell) → PassesBy ws cell link (nextOf (getD ws (72 + x) 0))
+  pass-on : {x : ℕ} → PassesBy ws cell link x → ¬ (x ≡ 0) → cellOf (getD ws (linksAt + x) 0) < 32768 → ¬ (cellOf (getD ws (linksAt + x) 0) ≡ cell) → PassesBy ws cell link (nextOf (getD ws (linksAt + x) 0))
 
 -- Between a sibling with the cell c and one with the cell r there is no blank, nor the cell wanted.
 pub record Reach (cell c r : ℕ) : Type 0 where
@@ -58,12 +59,12 @@ pub record Begins (ws : List ℕ) (cell link r : ℕ) : Type 0 where
 -- Passed by up to r; or up to a symbol above `last`, and r is none.
 pub data Sought (ws : List ℕ) (cell last link r : ℕ) : Type 0 where
   reached : PassesBy ws cell link r → Sought ws cell last link r
-  beyond : {x : ℕ} → PassesBy ws cell link x → ¬ (x ≡ 0) → last < cellOf (getD ws (72 + x) 0) → cellOf (getD ws (72 + x) 0) < 32768 → r ≡ 0 → Sought ws cell last link r
+  beyond : {x : ℕ} → PassesBy ws cell link x → ¬ (x ≡ 0) → last < cellOf (getD ws (linksAt + x) 0) → cellOf (getD ws (linksAt + x) 0) < 32768 → r ≡ 0 → Sought ws cell last link r
 
 -- From the link on, sibling by sibling, where nothing is to be skipped: at each that is passed the machine fails.
 pub data Skips (fq fr : Bool) (ws question : List ℕ) (place link : ℕ) : ℕ → Type 0 where
   stay : Skips fq fr ws question place link link
-  skip-on : {x : ℕ} → Skips fq fr ws question place link x → ¬ (x ≡ 0) → walkAfter fq fr question (getD ws (72 + x) 0) 0 place ≡ reading failed → Skips fq fr ws question place link (nextOf (getD ws (72 + x) 0))
+  skip-on : {x : ℕ} → Skips fq fr ws question place link x → ¬ (x ≡ 0) → walkAfter fq fr question (getD ws (linksAt + x) 0) 0 place ≡ reading failed → Skips fq fr ws question place link (nextOf (getD ws (linksAt + x) 0))
 
 -- Where it is 65,536 the question's cell may be filled. Else each other symbol makes the machine fail, and where it is a symbol and the rule's blanks
 -- may not be filled, any other cell.
@@ -94,7 +95,7 @@ pub record Ready (fq fr : Bool) (ws question : List ℕ) (p : Point) : Type 0 wh
   pub short : length question ≤ 32
   pub inside : p .place ≤ length question
   pub few : p .skip + 7 * heightAt ws (p .link) ≤ 231
-  pub low : (n : ℕ) → List·Memᴰ n (hitsAt fq fr ws question p) → view ws .tree .cell n < 4096
+  pub low : (n : ℕ) → List·Memᴰ n (hitsAt fq fr ws question p) → view ws .tree .cell n < ruleNumbers
 
 -- The marks afterwards are those before, and the cells of the nodes listed.
 pub record Marked (ws marks marks′ nodes : List ℕ) : Type 0 where
@@ -112,7 +113,7 @@ siblings ws link = beside (trie (view ws .tree) link)
 -- All of them have numbers that can be marked.
 pub record Numbered (ws : List ℕ) (link : ℕ) : Type 0 where
   pub threaded : Threaded ws link
-  pub low : (n : ℕ) → List·Memᴰ n (siblings ws link) → view ws .tree .cell n < 4096
+  pub low : (n : ℕ) → List·Memᴰ n (siblings ws link) → view ws .tree .cell n < ruleNumbers
 
 -- The points that a try leaves: at the node's sibling, and at its first child.
 abbrev pub besideOf : Point → Ways → Point
@@ -136,9 +137,9 @@ Left fq fr ws question p nodes r = Splits fq fr ws question p nodes (belowOf r) 
 
 -- A node is passed: its arguments are to be skipped, and so many subterms more.
 pub record PassesNode (ws : List ℕ) (link left place : ℕ) (r : Ways) : Type 0 where
-  pub beside : r .beside ≡ nextOf (getD ws (72 + link) 0)
-  pub down : r .down ≡ firstOf (getD ws (72 + link) 0)
-  pub skip : r .skip ≡ left + arity (blankOf (cellOf (getD ws (72 + link) 0)))
+  pub beside : r .beside ≡ nextOf (getD ws (linksAt + link) 0)
+  pub down : r .down ≡ firstOf (getD ws (linksAt + link) 0)
+  pub skip : r .skip ≡ left + arity (blankOf (cellOf (getD ws (linksAt + link) 0)))
   pub place-is : r .place ≡ place
   pub few : r .skip ≤ left + 7
 
@@ -150,7 +151,7 @@ pub record Tried (fq fr : Bool) (ws question marks marks′ : List ℕ) (p : Poi
 
 -- A point with these numbers can stand on the list.
 abbrev pub Small : ℕ → ℕ → ℕ → Type 0
-Small link skip place = (link ≤ 4608) × ((skip ≤ 231) × (place ≤ 32))
+Small link skip place = (link ≤ lastLink) × ((skip ≤ 231) × (place ≤ 32))
 
 -- Three points stand on it: the one that waits, and those that a try leaves.
 pub record Parted (link skip place left at : ℕ) (t : Ways) (depth : ℕ) (r : Points) : Type 0 where
@@ -191,7 +192,7 @@ pub record Went (fq fr : Bool) (ws question marks marks′ : List ℕ) (p : Poin
 -- The point that the search begins with: the tree's first node, and the machine before all cells.
 pub record IsRoot (ws : List ℕ) (p : Point) : Type 0 where
   pub words : (i : ℕ) → getD ws i 0 < 2 ^ 64
-  pub is : p ≡ record { link = firstOf (getD ws 72 0); skip = 0; place = 0 }
+  pub is : p ≡ record { link = firstOf (getD ws linksAt 0); skip = 0; place = 0 }
 
 -- It stands first on a list that is long enough.
 pub record Rooted (ws : List ℕ) (l : List Point) : Type 0 where
@@ -215,5 +216,5 @@ Asked fq fr ws question marks = (k : ℕ) → Member marks k ↔ Answering fq fr
 
 -- The marked numbers are written from the front of the cells, n of them, and the cells behind them stay.
 pub record Lists (marks out out′ : List ℕ) (n : ℕ) : Type 0 where
-  pub count : n ≡ length (numbers (has marks) 4096)
-  pub is : out′ ≡ numbers (has marks) 4096 ++ drop n out
+  pub count : n ≡ length (numbers (has marks) ruleNumbers)
+  pub is : out′ ≡ numbers (has marks) ruleNumbers ++ drop n out

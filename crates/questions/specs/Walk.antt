@@ -6,6 +6,7 @@ use Prim.Native.Nat.{ℕ, suc, _+_, _-_, _<_}
 use native.Mathlib.Omega.{arith}
 use native.Mathlib.Decide.{decLt}
 use lib.Dec.{T}
+use Rattle.layout.specs.Layout.{nodesLimit, rulesLimit, lastLink}
 use Rattle.term.specs.Cells.{Row, Blank, Proper, Terms, blankOf, blankForm}
 use Rattle.term.specs.Machine.{State, failed, at, step, run, done}
 use Rattle.term.specs.Matching.{AllProper, accepted-whole}
@@ -110,7 +111,7 @@ not-before fq fr q f wq wf p u e n = not-true _ (λ d.
     let w = accepted-whole fq fr q (map blankOf p) wq (all-proper p) (T-true _ d) in
     n (map-nil u (same-rest w wf (sym (map-append p u) ∙ ap (map blankOf) e ∙ sym (append-nil (map blankOf f))))))
 
-module _ (fq fr : Bool) (q : Row Blank) (wq : Terms 1 q) (v : View) (small : (n : ℕ) → Used (v .tree) n → n < 4608) (right : Right v) (b : Bounded (v .tree)) where
+module _ (fq fr : Bool) (q : Row Blank) (wq : Terms 1 q) (v : View) (small : (n : ℕ) → Used (v .tree) n → n < lastLink) (right : Right v) (b : Bounded (v .tree)) where
   abbrev pub found : List ℕ
   found = hits (next fq fr) (good fq fr) (v .tree) (reading (at 0 q)) (trie (v .tree) (v .tree .first 0))
 
@@ -126,16 +127,16 @@ module _ (fq fr : Bool) (q : Row Blank) (wq : Terms 1 q) (v : View) (small : (n 
       last-cell fq fr (at 0 q) (form v j) (number v j) (λ p w e n. not-before fq fr q (form v j) wq (form-terms j u) p w e n)
       ∙ ap (λ (z : Row Blank). done (run fq fr (at 0 q) z)) (form-row (term v j))
 
-  leaf-row : (j : ℕ) → taken v j ≡ true → Up (v .tree) (suc (4096 + j)) (reverse (form v j ++ (number v j ∷ [])))
+  leaf-row : (j : ℕ) → taken v j ≡ true → Up (v .tree) (suc (nodesLimit + j)) (reverse (form v j ++ (number v j ∷ [])))
   leaf-row j u = right .tree .ways _ (Memᴰ·map Rattle.tree.specs.Leaves.endOf (taken-leaf v small right j u))
 
   -- a node of a form is not found
-  inner-bad : (n : ℕ) (r : List ℕ) → n < 4096 → Up (v .tree) (suc n) r → good fq fr (search.run (next fq fr) (good fq fr) (reading (at 0 q)) (reverse r)) ≡ false
+  inner-bad : (n : ℕ) (r : List ℕ) → n < nodesLimit → Up (v .tree) (suc n) r → good fq fr (search.run (next fq fr) (good fq fr) (reading (at 0 q)) (reverse r)) ≡ false
   inner-bad n r l up =
       let g = numbered (hanging v small right) .begins n r l up in
       let x = Memᴰ·of-map (λ (y : Leaf). y .form) (leaves v) (g .among) in
       let y = Memᴰ·of-map (leaf v) _ (x .1) in
-      let u = Rattle.tree.specs.Tallies.of-listed (taken v) 512 (y .1) .0 in
+      let u = Rattle.tree.specs.Tallies.of-listed (taken v) rulesLimit (y .1) .0 in
       let ef : form v (y .0) ≡ g .form = ap (λ (z : Leaf). z .form) (y .2) ∙ x .2 in
       ap (good fq fr) (read-row fq fr (at 0 q) (reverse r) (λ p w e n.
       not-before fq fr q (form v (y .0)) wq (form-terms (y .0) u) p (w ++ g .rest) (sym (append-assoc p w (g .rest)) ∙ ap (λ (z : List ℕ). z ++ g .rest) e ∙ g .is ∙ sym ef)
@@ -146,22 +147,22 @@ module _ (fq fr : Bool) (q : Row Blank) (wq : Terms 1 q) (v : View) (small : (n 
       nil-left (x ∷ a) c e = absurd (let z : _≡_ {A = ℕ} 0 1 = cc in omega arith)
 
   -- what is found are the places of the rules that answer
-  pub found-rule : (n : ℕ) → List·Memᴰ n found → (j : ℕ) × (n ≡ 4096 + j) × (taken v j ≡ true) × (answers-at j ≡ true)
-  found-rule n i = go (decLt n 4096)
+  pub found-rule : (n : ℕ) → List·Memᴰ n found → (j : ℕ) × (n ≡ nodesLimit + j) × (taken v j ≡ true) × (answers-at j ≡ true)
+  found-rule n i = go (decLt n nodesLimit)
     where
       g : (r : List ℕ) × Up (v .tree) (suc n) r × (good fq fr (search.run (next fq fr) (good fq fr) (reading (at 0 q)) (reverse r)) ≡ true)
       g = found-good (next fq fr) (good fq fr) (v .tree) (passes-tree (right .tree)) b (reading (at 0 q)) n i
 
-      go : Dec (n < 4096) → (j : ℕ) × (n ≡ 4096 + j) × (taken v j ≡ true) × (answers-at j ≡ true)
+      go : Dec (n < nodesLimit) → (j : ℕ) × (n ≡ nodesLimit + j) × (taken v j ≡ true) × (answers-at j ≡ true)
       go (yes l) = absurd (true≢false (g .2) (inner-bad n (g .0) l (g .1)))
       go (no l) =
-          let e : n ≡ 4096 + (n - 4096) = omega arith in
-          let up : Up (v .tree) (suc (4096 + (n - 4096))) (g .0) = subst (λ (z : ℕ). Up (v .tree) (suc z) (g .0)) e (g .1) in
-          let u : taken v (n - 4096) ≡ true = Rattle.tree.specs.Basics.up-used up in
-          let same : reverse (g .0) ≡ form v (n - 4096) ++ (number v (n - 4096) ∷ []) = ap reverse (up-same up (leaf-row (n - 4096) u)) ∙ reverse-reverse _ in
-          (n - 4096, e, u, sym (leaf-good (n - 4096) u) ∙ ap (λ (z : List ℕ). good fq fr (search.run (next fq fr) (good fq fr) (reading (at 0 q)) z)) (sym same) ∙ g .2)
+          let e : n ≡ nodesLimit + (n - nodesLimit) = omega arith in
+          let up : Up (v .tree) (suc (nodesLimit + (n - nodesLimit))) (g .0) = subst (λ (z : ℕ). Up (v .tree) (suc z) (g .0)) e (g .1) in
+          let u : taken v (n - nodesLimit) ≡ true = Rattle.tree.specs.Basics.up-used up in
+          let same : reverse (g .0) ≡ form v (n - nodesLimit) ++ (number v (n - nodesLimit) ∷ []) = ap reverse (up-same up (leaf-row (n - nodesLimit) u)) ∙ reverse-reverse _ in
+          (n - nodesLimit, e, u, sym (leaf-good (n - nodesLimit) u) ∙ ap (λ (z : List ℕ). good fq fr (search.run (next fq fr) (good fq fr) (reading (at 0 q)) z)) (sym same) ∙ g .2)
 
-  pub rule-found : (j : ℕ) → taken v j ≡ true → answers-at j ≡ true → List·Memᴰ (4096 + j) found
+  pub rule-found : (j : ℕ) → taken v j ≡ true → answers-at j ≡ true → List·Memᴰ (nodesLimit + j) found
   rule-found j u e =
-      good-found (next fq fr) (good fq fr) (v .tree) (passes-tree (right .tree)) b (reading (at 0 q)) (4096 + j) (reverse (form v j ++ (number v j ∷ []))) (leaf-row j u)
+      good-found (next fq fr) (good fq fr) (v .tree) (passes-tree (right .tree)) b (reading (at 0 q)) (nodesLimit + j) (reverse (form v j ++ (number v j ∷ []))) (leaf-row j u)
       (ap (λ (z : List ℕ). good fq fr (search.run (next fq fr) (good fq fr) (reading (at 0 q)) z)) (reverse-reverse (form v j ++ (number v j ∷ []))) ∙ leaf-good j u ∙ e)

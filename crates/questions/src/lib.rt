@@ -9,6 +9,7 @@ ghost use mathlib.Core.Path.{_≡_};
 ghost use Prim.Native.Nat.{_-_, _<_, _≤_};
 ghost use mathlib.Core.List.{[]};
 ghost use lib.ListN.{length};
+ghost use Rattle.layout.specs.Layout.{ruleNumbers, lastLink, bookWords};
 ghost use Rattle.book.specs.Memory.{Passing};
 ghost use Rattle.book.specs.Promises.{IsTerm};
 ghost use Rattle.bits.specs.Numbers.{NumberSet, has};
@@ -53,7 +54,7 @@ fn nowhere() -> Ways
 // The sibling to look at after the node with the word w: the next, as long as a symbol wanted is ahead; else the last, if it is known,
 // since it alone may be a blank.
 fn onward(m: &[u64], cell: u64, w: u64) -> usize
-    requires { ⌜ length (now m) ≡ 12618 ⌝ }
+    requires { ⌜ length (now m) ≡ bookWords ⌝ }
     requires { ⌜ (cellOf w ≡ cell → ⊥) ⌝ }
     ensures { λ r. ⌜ Onwards (now (m .entry)) cell w r ⌝ }
 {
@@ -62,7 +63,11 @@ fn onward(m: &[u64], cell: u64, w: u64) -> usize
             return tree::next_of(w) as usize;
         }
     }
-    tree::signs::to_last(&m[0..4681], &m[4681..6986], w)
+    tree::signs::to_last(
+        &m[0..layout::TREE_WORDS],
+        &m[layout::SIGNS_AT..layout::SIGNS_END],
+        w,
+    )
 }
 
 // Where to begin looking for the cell from the link on: where a sign leads to it or near it, or at the link.
@@ -76,14 +81,20 @@ fn leap(m: &[u64], cell: u64, link: usize) -> usize
     if MARK <= cell {
         return link;
     }
-    let w = m[72 + link];
+    let w = m[layout::LINKS_AT + link];
     if cell <= tree::cell_of(w) {
         return link;
     }
     if tree::next_of(w) == 0 {
         return link;
     }
-    tree::signs::known(&m[0..4681], &m[4681..6986], link, w, cell)
+    tree::signs::known(
+        &m[0..layout::TREE_WORDS],
+        &m[layout::SIGNS_AT..layout::SIGNS_END],
+        link,
+        w,
+        cell,
+    )
 }
 
 // The first sibling from the link on whose cell is the one wanted, or that is a blank; none where a symbol above `last` comes
@@ -94,7 +105,7 @@ fn sibling(m: &[u64], cell: u64, last: u64, link: usize) -> usize
 {
     let mut x = leap(m, cell, link);
     while x != 0 {
-        let w = m[72 + x];
+        let w = m[layout::LINKS_AT + x];
         let c = tree::cell_of(w);
         if c == cell {
             return x;
@@ -139,11 +150,11 @@ fn last_wanted(fills_rule: bool, cell: u64) -> u64
 
 // A node that is passed, whatever its cell is: below it its arguments are to be skipped, and what is left of the subterms.
 fn pass_node(m: &[u64], link: usize, left: usize, place: usize) -> Ways
-    requires { ⌜ (length (now m) ≡ 12618) × (link ≤ 4608) ⌝ }
+    requires { ⌜ (length (now m) ≡ bookWords) × (link ≤ lastLink) ⌝ }
     requires { ⌜ left ≤ 231 ⌝ }
     ensures { λ r. ⌜ PassesNode (now (m .entry)) link left place r ⌝ }
 {
-    let w = m[72 + link];
+    let w = m[layout::LINKS_AT + link];
     let skip = left + term::arity(tree::cell_of(w) as u16);
     Ways {
         beside: tree::next_of(w) as usize,
@@ -161,7 +172,7 @@ fn mark_rules(m: &[u64], marks: &mut [u64], link: usize)
 {
     let mut x = link;
     while x != 0 {
-        let w = m[72 + x];
+        let w = m[layout::LINKS_AT + x];
         bits::numbers::put(marks, tree::cell_of(w) as usize);
         x = tree::next_of(w) as usize;
     }
@@ -187,7 +198,7 @@ fn meet_node(
     if x == 0 {
         return nowhere();
     }
-    let w = m[72 + x];
+    let w = m[layout::LINKS_AT + x];
     let c = tree::cell_of(w) as u16;
     let s = machine::meet(fills_question, fills_rule, question, c, place);
     let beside = tree::next_of(w) as usize;
@@ -352,7 +363,7 @@ fn root(m: &[u64]) -> Point
     requires { ⌜ Passing (now m) ⌝ }
     ensures { λ r. ⌜ IsRoot (now (m .entry)) r ⌝ }
 {
-    let first = tree::first_of(m[72]) as u16;
+    let first = tree::first_of(m[layout::LINKS_AT]) as u16;
     Point {
         link: first,
         skip: 0,
@@ -412,11 +423,11 @@ pub fn mark_answers(
 // How many numbers are marked.
 pub fn count(marks: &[u64]) -> usize
     requires { ⌜ NumberSet (now marks) ⌝ }
-    ensures { λ n. ⌜ n ≡ length (numbers (has (now (marks .entry))) 4096) ⌝ }
+    ensures { λ n. ⌜ n ≡ length (numbers (has (now (marks .entry))) ruleNumbers) ⌝ }
 {
     let mut n: usize = 0;
     let mut k = bits::numbers::next(marks, 0);
-    while k < 4096 {
+    while k < layout::RULE_NUMBERS {
         n += 1;
         k = bits::numbers::next(marks, k + 1);
     }
@@ -426,12 +437,12 @@ pub fn count(marks: &[u64]) -> usize
 // Writes the marked numbers, ascending, from the front of `out`, and answers how many they are.
 pub fn list(marks: &[u64], out: &mut [u16]) -> usize
     requires { ⌜ NumberSet (now marks) ⌝ }
-    requires { ⌜ length (numbers (has (now marks)) 4096) ≤ length (now out) ⌝ }
+    requires { ⌜ length (numbers (has (now marks)) ruleNumbers) ≤ length (now out) ⌝ }
     ensures { λ n. ⌜ Lists (now (marks .entry)) (now (out .entry)) (now (out .exit)) n ⌝ }
 {
     let mut n: usize = 0;
     let mut s = bits::numbers::first(marks, 0);
-    while s.at < 4096 {
+    while s.at < layout::RULE_NUMBERS {
         out[n] = s.at as u16;
         n += 1;
         s = bits::numbers::after(marks, s.at, s.rest);

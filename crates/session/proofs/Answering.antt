@@ -5,6 +5,7 @@ use Prim.Native.Nat.{ℕ, _≤_}
 use native.Mathlib.Omega.{arith}
 use lib.ListN.{length, take, drop, replicate, length-append, length-take, length-replicate}
 use lib.Seq.{take-at}
+use Rattle.layout.specs.Layout.{bookWords}
 use Rattle.book.specs.Rules.{Rules, noRules}
 use Rattle.book.specs.Memory.{Passing, rulesIn}
 use Rattle.book.specs.Promises.{Empties}
@@ -25,10 +26,10 @@ pub record Came (cells output : List ℕ) (stop used n : ℕ) : Type 0 where
   pub within : n ≤ length output
 
 pub came : {book after cells output : List ℕ} {r stop used n : ℕ}
-    → Empties (replicate 12618 0) book r → Runs book after cells (replicate 4096 0) output stop used n → Came cells output stop used n
+    → Empties (replicate bookWords 0) book r → Runs book after cells (replicate 4096 0) output stop used n → Came cells output stop used n
 came {book} {after} {cells} {output} {r} {stop} {used} {n} e runs =
     let out : List ℕ = replicate 4096 0 in
-    let zeros : book ≡ replicate 12618 0 = e .made (length-replicate {A = ℕ} 12618 0) .1 in
+    let zeros : book ≡ replicate bookWords 0 = e .made (length-replicate {A = ℕ} bookWords 0) .1 in
     let rules : rulesIn book ≡ noRules = ap rulesIn zeros ∙ empty-rules in
     let ran = passing runs (subst Passing (sym zeros) empty-passes) in
     let same : run (rulesIn book) cells (length out) ≡ run noRules cells 4096 = ap₂ (λ (x : Rules) (y : ℕ). run x cells y) rules (length-replicate {A = ℕ} 4096 0) in

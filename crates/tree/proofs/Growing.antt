@@ -10,6 +10,7 @@ use native.Mathlib.Decide.{decLt}
 use lib.Dec.{eqb}
 use lib.ListN.{length, getD, take, drop, length-take, length-drop, length-append, length-reverse}
 use lib.Seq.{getD-drop, getD-take, take-all}
+use Rattle.layout.specs.Layout.{nodeMapWords, nodesLimit, nodeMapLast, mapWords, treeWords}
 use Rattle.bits.specs.Packed.{bits, sum, Skipped, First}
 use Rattle.bits.specs.Laws.{length-bits, get-bit, bit-low}
 use Rattle.term.specs.Counting.{true≢false}
@@ -32,26 +33,26 @@ one-of zero h n = absurd (n refl)
 one-of (suc zero) h n = refl
 one-of (suc (suc x)) h n = absurd (omega arith)
 
-module _ (ws : List ℕ) (size : length ws ≡ 4681) (n : ℕ) (f : First 0 (bits (take 64 ws)) 0 n) where
-  long : length (bits (take 64 ws)) ≡ 4096
-  long = omega (arith, length-bits (take 64 ws), length-take 64 ws)
+module _ (ws : List ℕ) (size : length ws ≡ treeWords) (n : ℕ) (f : First 0 (bits (take nodeMapWords ws)) 0 n) where
+  long : length (bits (take nodeMapWords ws)) ≡ nodesLimit
+  long = omega (arith, length-bits (take nodeMapWords ws), length-take nodeMapWords ws)
 
   below : (k : ℕ) → k < n → Used (shape ws) k
   below k h =
       sym (node-bit ws k (omega (arith, f .within, long)))
-      ∙ one-of (getD (bits (take 64 ws)) k 0) (bit-low (take 64 ws) k) (f .before k (omega arith) h)
+      ∙ one-of (getD (bits (take nodeMapWords ws)) k 0) (bit-low (take nodeMapWords ws) k) (f .before k (omega arith) h)
 
-  pub free-low : tally (shape ws .used) 4096 < 4096 → n < 4096
-  free-low h = go (decLt n 4096)
+  pub free-low : tally (shape ws .used) nodesLimit < nodesLimit → n < nodesLimit
+  free-low h = go (decLt n nodesLimit)
     where
-      go : Dec (n < 4096) → n < 4096
+      go : Dec (n < nodesLimit) → n < nodesLimit
       go (yes q) = q
-      go (no q) = absurd (full (tally-all (shape ws .used) 4096 (λ y d. below y (omega arith))))
+      go (no q) = absurd (full (tally-all (shape ws .used) nodesLimit (λ y d. below y (omega arith))))
         where
-          full : tally (shape ws .used) 4096 ≡ 4096 → ⊥
+          full : tally (shape ws .used) nodesLimit ≡ nodesLimit → ⊥
           full e = omega arith
 
-  pub free-lowest : tally (shape ws .used) 4096 < 4096 → Lowest (shape ws) n
+  pub free-lowest : tally (shape ws .used) nodesLimit < nodesLimit → Lowest (shape ws) n
   free-lowest h =
       let q = free-low h in
       record { low = q; free = sym (node-bit ws n q) ∙ ap (λ (x : ℕ). eqb x 1) (f .here (omega (arith, long))); below = below }
@@ -64,10 +65,10 @@ pub record Full (ws : List ℕ) (k : ℕ) : Type 0 where
 pub full-none : (ws : List ℕ) → Full ws 0
 full-none ws = record { within = omega arith; used = λ y h. absurd (omega arith) }
 
-pub full-skipped : (ws : List ℕ) (k : ℕ) → Full ws k → Skipped 0 (bits (take 64 ws)) 0 (k * 64)
+pub full-skipped : (ws : List ℕ) (k : ℕ) → Full ws k → Skipped 0 (bits (take nodeMapWords ws)) 0 (k * 64)
 full-skipped ws k f y a h e = true≢false (node-bit ws y (let w = f .within in omega arith) ∙ f .used y h) (ap (λ (x : ℕ). eqb x 1) e)
 
-pub full-on : (ws ws′ : List ℕ) → length ws ≡ 4681 → (n : ℕ) → First 0 (bits (take 64 ws)) 0 n → n < 4096 → {s : Place} {c : ℕ} → Links (shape ws) (shape ws′) s c n
+pub full-on : (ws ws′ : List ℕ) → length ws ≡ treeWords → (n : ℕ) → First 0 (bits (take nodeMapWords ws)) 0 n → n < nodesLimit → {s : Place} {c : ℕ} → Links (shape ws) (shape ws′) s c n
     → Full ws′ (n / 64)
 full-on ws ws′ size n f l k = record {
   within = omega arith;
@@ -87,11 +88,11 @@ chain-end ws₀ ws l₀ l b form i g h =
     subst (λ (z : List ℕ). Grown (shape ws₀) l₀ (reverse z) (shape ws) l) (take-all i form h) (g .grown)
 
 module _ (ws₀ ws : List ℕ) (l₀ l b : ℕ) (form : List ℕ) (i : ℕ) (g : Chain ws₀ ws l₀ l b form i) (hi : i < length form) where
-  module _ (n : ℕ) (first : First 0 (bits (take 64 ws)) 0 n) where
-    some-free : tally (shape ws .used) 4096 < 4096
+  module _ (n : ℕ) (first : First 0 (bits (take nodeMapWords ws)) 0 n) where
+    some-free : tally (shape ws .used) nodesLimit < nodesLimit
     some-free = omega (arith, g .growing .room)
 
-    pub chain-low : n < 4096
+    pub chain-low : n < nodesLimit
     chain-low = free-low ws (g .growing .size) n first some-free
 
     lowest : Lowest (shape ws) n
@@ -133,7 +134,7 @@ module _ (ws₀ ws : List ℕ) (l₀ l b : ℕ) (form : List ℕ) (i : ℕ) (g :
             within = hi;
             absent = λ h y u e d. childless (shape ws′) tree′ (suc n) (k .first) y u e;
             found = λ h. first-child (getD form (suc i) 0);
-            room = let a = tally-more (shape ws .used) (shape ws′ .used) n 4096 chain-low (k .was) (k .now) (k .kept .used) in omega (arith, g .growing .room);
+            room = let a = tally-more (shape ws .used) (shape ws′ .used) n nodesLimit chain-low (k .was) (k .now) (k .kept .used) in omega (arith, g .growing .room);
           };
           grown = subst (λ (r : List ℕ). Grown (shape ws₀) l₀ r (shape ws′) (suc n)) (ap (λ (d : ℕ). d ∷ reverse (take i form)) ec ∙ sym (take-next form i hi))
               (more (place l b) (g .grown) lowest sorted (f .under) k);
@@ -151,23 +152,23 @@ tally-low u n (suc k) h = go (tally-low u n k (λ y m q. h y m (omega arith))) (
     go b (yes l) = let a = tally-le u (suc k) in omega arith
     go b (no l) = let a : bit (u k) ≡ 0 = ap bit (h k (omega arith) (omega arith)) in omega arith
 
-module _ (ws : List ℕ) (size : length ws ≡ 4681) where
+module _ (ws : List ℕ) (size : length ws ≡ treeWords) where
   -- the last word of the map is 0: its 64 nodes are free
-  pub last-free : getD ws 63 0 ≡ 0 → tally (shape ws .used) 4096 ≤ 4032
-  last-free e = tally-low (shape ws .used) 4032 4096 (λ y a b. ap (λ (x : ℕ). eqb x 1) (free y a b))
+  pub last-free : getD ws nodeMapLast 0 ≡ 0 → tally (shape ws .used) nodesLimit ≤ 64 * nodeMapLast
+  last-free e = tally-low (shape ws .used) (64 * nodeMapLast) nodesLimit (λ y a b. ap (λ (x : ℕ). eqb x 1) (free y a b))
     where
-      free : (y : ℕ) → 4032 ≤ y → y < 4096 → getD (bits (take 72 ws)) y 0 ≡ 0
+      free : (y : ℕ) → 64 * nodeMapLast ≤ y → y < nodesLimit → getD (bits (take mapWords ws)) y 0 ≡ 0
       free y a b =
-          let q : y / 64 ≡ 63 = omega arith in
-          get-bit (take 72 ws) y
-          ∙ ap (λ (w : ℕ). w / 2 ^ (63 - y % 64) % 2) (getD-take 72 ws (y / 64) 0 (omega arith) ∙ ap (λ (k : ℕ). getD ws k 0) q ∙ e)
+          let q : y / 64 ≡ nodeMapLast = omega arith in
+          get-bit (take mapWords ws) y
+          ∙ ap (λ (w : ℕ). w / 2 ^ (63 - y % 64) % 2) (getD-take mapWords ws (y / 64) 0 (omega arith) ∙ ap (λ (k : ℕ). getD ws k 0) q ∙ e)
           ∙ ap (λ (x : ℕ). x % 2) (zero-div (2 ^ (63 - y % 64)))
 
-  pub held-is : (held : ℕ) → held ≡ sum (bits (take 64 ws)) → held ≡ tally (shape ws .used) 4096
+  pub held-is : (held : ℕ) → held ≡ sum (bits (take nodeMapWords ws)) → held ≡ tally (shape ws .used) nodesLimit
   held-is held e = e ∙ nodes-held ws size
 
-  pub held-low : (held : ℕ) → held ≡ sum (bits (take 64 ws)) → held ≤ 4096
-  held-low held e = subst (λ (k : ℕ). k ≤ 4096) (sym (held-is held e)) (tally-le (shape ws .used) 4096)
+  pub held-low : (held : ℕ) → held ≡ sum (bits (take nodeMapWords ws)) → held ≤ nodesLimit
+  held-low held e = subst (λ (k : ℕ). k ≤ nodesLimit) (sym (held-is held e)) (tally-le (shape ws .used) nodesLimit)
 
 -- ---- the whole of it: what is missing behind the nodes that exist
 
@@ -178,7 +179,7 @@ module _ (ws form : List ℕ) (s : Sound ws) (l i : ℕ) (d : Descended (shape w
   cell : getD (drop i form) 0 0 ≡ getD form i 0
   cell = getD-drop i form 0 0 ∙ ap (λ (k : ℕ). getD form k 0) (add-zero i)
 
-  pub plant-growing : tally (shape ws .used) 4096 + (length form - i) ≤ 4096 → (b : ℕ) → Next (shape ws) form l i b → Growing ws l b (take (length form - i) (drop i form)) 0
+  pub plant-growing : tally (shape ws .used) nodesLimit + (length form - i) ≤ nodesLimit → (b : ℕ) → Next (shape ws) form l i b → Growing ws l b (take (length form - i) (drop i form)) 0
   plant-growing h b f = subst (λ (z : List ℕ). Growing ws l b z 0) (sym rest) (record {
     size = s .size;
     tree = s .tree;
@@ -189,7 +190,7 @@ module _ (ws form : List ℕ) (s : Sound ws) (l i : ℕ) (d : Descended (shape w
     room = omega (arith, length-drop i form);
   })
 
-  pub plant-full : 4096 < tally (shape ws .used) 4096 + (length form - i) → Planted ws ws form 0
+  pub plant-full : nodesLimit < tally (shape ws .used) nodesLimit + (length form - i) → Planted ws ws form 0
   plant-full h = record {
     at = l;
     depth = i;
@@ -199,7 +200,7 @@ module _ (ws form : List ℕ) (s : Sound ws) (l i : ℕ) (d : Descended (shape w
     grown = λ n. absurd (n refl);
   }
 
-  pub plant-fits : (ws′ : List ℕ) (r : ℕ) → 0 < length form → tally (shape ws .used) 4096 + (length form - i) ≤ 4096
+  pub plant-fits : (ws′ : List ℕ) (r : ℕ) → 0 < length form → tally (shape ws .used) nodesLimit + (length form - i) ≤ nodesLimit
       → Grown (shape ws) l (reverse (take (length form - i) (drop i form))) (shape ws′) r → Planted ws ws′ form r
   plant-fits ws′ r pos h g = record {
     at = l;

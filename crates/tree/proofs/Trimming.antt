@@ -4,6 +4,7 @@ use mathlib.Core.List.{List, _++_}
 use Prim.Native.Nat.{ℕ, zero, suc, _+_, _-_, _≤_, _<_}
 use native.Mathlib.Omega.{arith}
 use lib.ListN.{length, getD, set, take, drop}
+use Rattle.layout.specs.Layout.{mapWords, nodesAt, lastLink, treeWords}
 use Rattle.bits.specs.Packed.{bits}
 use Rattle.tree.specs.Shape.{Shape, Used, Live, Tree}
 use Rattle.tree.specs.Order.{parent-live, childless}
@@ -19,18 +20,18 @@ use Rattle.tree.specs.Limits.{used-low, live-low, place-low}
 use Rattle.tree.proofs.Stores.{node-word, flips}
 use Rattle.tree.proofs.Walking.{found-child}
 
-module _ (ws : List ℕ) (n p : ℕ) (l : Leaf ws n) (ep : p ≡ parentOf (getD ws (73 + n) 0)) where
+module _ (ws : List ℕ) (n p : ℕ) (l : Leaf ws n) (ep : p ≡ parentOf (getD ws (nodesAt + n) 0)) where
   pub leaf-ready : Ready ws p
   leaf-ready =
       let live = subst (λ (k : ℕ). Live (shape ws) k) (sym (ep ∙ ap parentOf (node-word ws n))) (parent-live (shape ws) (l .tree) n (l .used)) in
       record { size = l .size; tree = l .tree; live = live }
 
-  module _ (b c x : ℕ) (ec : c ≡ cellOf (getD ws (73 + n) 0)) (ex : x ≡ nextOf (getD ws (73 + n) 0)) (f : Found (shape ws) p b c) where
-    pub leaf-low : (p ≤ 4608) × (b ≤ 4608) × (x < 65536)
+  module _ (b c x : ℕ) (ec : c ≡ cellOf (getD ws (nodesAt + n) 0)) (ex : x ≡ nextOf (getD ws (nodesAt + n) 0)) (f : Found (shape ws) p b c) where
+    pub leaf-low : (p ≤ lastLink) × (b ≤ lastLink) × (x < 65536)
     leaf-low = (live-low ws (l .size) p (leaf-ready .live), place-low ws (l .size) p b (f .valid), omega arith)
 
     pub leaf-unlinked : (ws₁ map : List ℕ) → length ws₁ ≡ length ws → Puts (shape ws) (shape ws₁) (place p b) x
-        → length map ≡ length (take 72 ws₁) → bits map ≡ set (bits (take 72 ws₁)) n 0 → Unlinked (shape ws) (shape (map ++ drop 72 ws₁)) n
+        → length map ≡ length (take mapWords ws₁) → bits map ≡ set (bits (take mapWords ws₁)) n 0 → Unlinked (shape ws) (shape (map ++ drop mapWords ws₁)) n
     leaf-unlinked ws₁ map same q long cleared =
         let e = node-word ws n in
         record {
@@ -41,10 +42,10 @@ module _ (ws : List ℕ) (n p : ℕ) (l : Leaf ws n) (ep : p ≡ parentOf (getD 
 
 -- the loop: it is at the link l, and what trimming from there gives is the whole
 pub record Trimming (ws₀ ws : List ℕ) (l₀ l : ℕ) : Type 0 where
-  pub size : length ws ≡ 4681
+  pub size : length ws ≡ treeWords
   pub tree : Tree (shape ws)
   pub live : Live (shape ws) l
-  pub low : l ≤ 4608
+  pub low : l ≤ lastLink
   pub so-far : (m : Shape) → Trimmed (shape ws) l m → Trimmed (shape ws₀) l₀ m
 
 pub trim-start : (ws : List ℕ) (n : ℕ) → Sound ws → Used (shape ws) n → Trimming ws ws (suc n) (suc n)
@@ -91,11 +92,11 @@ module _ (ws₀ ws : List ℕ) (l₀ : ℕ) where
         live′ : Live (shape ws′) (shape ws .parent n)
         live′ = still (shape ws .parent n) (parent-live (shape ws) (t .tree) n (t .live)) (λ d. childless (shape ws) (t .tree) (suc n) (k .leaf) n (t .live) d)
 
-    pub trim-less : (l : ℕ) → ¬ (l ≡ 0) → Trimming ws₀ ws l₀ l → Unlinked (shape ws) (shape ws′) (l - 1) → tally (shape ws′ .used) 4608 < tally (shape ws .used) 4608
+    pub trim-less : (l : ℕ) → ¬ (l ≡ 0) → Trimming ws₀ ws l₀ l → Unlinked (shape ws) (shape ws′) (l - 1) → tally (shape ws′ .used) lastLink < tally (shape ws .used) lastLink
     trim-less zero h t u = absurd (h refl)
     trim-less (suc n) h t u =
         let k = at-node n u in
-        less (tally-more (shape ws′ .used) (shape ws .used) n 4608 (t .low) (k .gone) (t .live) (λ y q. sym (k .kept .used y q)))
+        less (tally-more (shape ws′ .used) (shape ws .used) n lastLink (t .low) (k .gone) (t .live) (λ y q. sym (k .kept .used y q)))
       where
         less : {a b : ℕ} → a ≡ suc b → b < a
         less e = omega arith

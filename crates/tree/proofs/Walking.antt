@@ -7,6 +7,7 @@ use native.Mathlib.Numerals.{add-one}
 use native.Mathlib.Omega.{arith}
 use lib.ListN.{length, getD, take}
 use lib.Seq.{take-suc}
+use Rattle.layout.specs.Layout.{lastLink, treeWords}
 use Rattle.tree.specs.Basics.{up-live}
 use Rattle.tree.specs.Shape.{Shape, Place, child, after, Used, Valid, to, owner, floor, Fits, Up, top, down, Tree}
 use Rattle.tree.specs.Order.{ahead}
@@ -23,10 +24,10 @@ pub record Walk (ws : List ℕ) (p b c x : ℕ) : Type 0 where
   pub under : owner (shape ws) (place p b) ≡ p
   pub above : floor (shape ws) (place p b) ≤ c
   pub leads : to (shape ws) (place p b) ≡ x
-  pub low : x ≤ 4608
+  pub low : x ≤ lastLink
 
 -- where a link leads there is a node of the memory
-link-low : (ws : List ℕ) → length ws ≡ 4681 → Tree (shape ws) → (s : Place) → Valid (shape ws) s → (x : ℕ) → to (shape ws) s ≡ x → x ≤ 4608
+link-low : (ws : List ℕ) → length ws ≡ treeWords → Tree (shape ws) → (s : Place) → Valid (shape ws) s → (x : ℕ) → to (shape ws) s ≡ x → x ≤ lastLink
 link-low ws size t s v zero e = omega arith
 link-low ws size t s v (suc k) e = used-low ws size k (t .goes s v e .used)
 
@@ -38,7 +39,7 @@ walk-start ws p b c x r f e = record { valid = f .valid; under = f .under; above
 pub before-all : (ws : List ℕ) (p c : ℕ) → Ready ws p → Before (shape ws) p 0 c
 before-all ws p c r = record { valid = r .live; under = refl; above = omega arith }
 
-pub first-link : (ws : List ℕ) (p x : ℕ) → Ready ws p → x ≡ firstOf (word ws p) → x ≤ 4608
+pub first-link : (ws : List ℕ) (p x : ℕ) → Ready ws p → x ≡ firstOf (word ws p) → x ≤ lastLink
 first-link ws p x r e = link-low ws (r .size) (r .tree) (child p) (r .live) x (sym e)
 
 module _ (ws : List ℕ) (p c x v : ℕ) (r : Ready ws p) (n : ¬ (x ≡ 0)) (e : x ≡ firstOf (word ws p)) (ev : v ≡ cellOf (word ws x)) (l : v < c) where
@@ -62,7 +63,7 @@ module _ (ws : List ℕ) (p c x v : ℕ) (r : Ready ws p) (n : ¬ (x ≡ 0)) (e 
           by (inl d) = subst (λ (i : ℕ). Before (shape ws) p i c) (sym (d ∙ q)) (record { valid = g .used; under = g .under; above = omega (arith, same, l) })
           by (inr f) = subst (λ (i : ℕ). Before (shape ws) p i c) (sym (f .leads)) (record { valid = f .used; under = f .beside ∙ sym parents ∙ g .under; above = let h = f .near in omega (arith, l) })
 
-module _ (ws : List ℕ) (size : length ws ≡ 4681) (t : Tree (shape ws)) (p b c : ℕ) where
+module _ (ws : List ℕ) (size : length ws ≡ treeWords) (t : Tree (shape ws)) (p b c : ℕ) where
   pub walk-on : (x v y : ℕ) → ¬ (x ≡ 0) → Walk ws p b c x → v ≡ cellOf (word ws x) → v < c → y ≡ nextOf (word ws x) → Walk ws p x c y
   walk-on zero v y h w e l f = absurd (h refl)
   walk-on (suc k) v y h w e l f =
@@ -130,14 +131,14 @@ module _ (ws form : List ℕ) (s : Sound ws) (l i : ℕ) (d : Descending (shape 
   descend-ready = record { size = s .size; tree = s .tree; live = up-live (d .at) }
 
   module _ (hi : i < length form) (b c x : ℕ) (ec : c ≡ getD form i 0) (f : Found (shape ws) l b c) where
-    pub descend-low : (l ≤ 4608) × (b ≤ 4608)
+    pub descend-low : (l ≤ lastLink) × (b ≤ lastLink)
     descend-low = (live-low ws (s .size) l (up-live (d .at)), place-low ws (s .size) l b (f .valid))
 
     pub descend-next : Next (shape ws) form l i b
     descend-next q = subst (λ (z : ℕ). Found (shape ws) l b z) ec f
 
     module _ (e : to (shape ws) (place l b) ≡ x) where
-      pub next-low : x ≤ 4608
+      pub next-low : x ≤ lastLink
       next-low = link-low ws (s .size) (s .tree) (place l b) (f .valid) x e
 
       -- the child that would have the cell is the one that comes next

@@ -3,6 +3,7 @@ use mathlib.Core.Path.{_≡_}
 use mathlib.Core.List.{List, [], _∷_}
 use mathlib.Core.Bool.{true, false}
 use Prim.Native.Nat.{ℕ, suc, _≤_, _<_}
+use Rattle.layout.specs.Layout.{nodesLimit}
 use Rattle.tree.specs.Shape.{Shape, Place, Used, Valid, to, owner, floor}
 
 -- what is said of nodes other than n stays
@@ -41,7 +42,7 @@ pub record Sorted (m : Shape) (s : Place) (c : ℕ) : Type 0 where
 
 -- n is the free node of lowest number, and not a rule's
 pub record Lowest (m : Shape) (n : ℕ) : Type 0 where
-  pub low : n < 4096
+  pub low : n < nodesLimit
   pub free : m .used n ≡ false
   pub below : (k : ℕ) → k < n → Used m k
 

@@ -8,6 +8,7 @@ use native.Mathlib.Omega.{arith}
 use native.Mathlib.Decide.{decLt}
 use lib.ListN.{length, length-append}
 use native.Mathlib.Nat.{suc-inj}
+use Rattle.layout.specs.Layout.{nodesLimit}
 use Rattle.term.specs.Beginnings.{Begins}
 use Rattle.tree.specs.Basics.{up-used}
 use Rattle.tree.specs.Shape.{Shape, Used, Up, End, Passes, forms, PrefixFree, Short}
@@ -25,7 +26,7 @@ abbrev pub rowOf : Leaf → List ℕ
 rowOf x = x .form ++ (x .number ∷ [])
 
 abbrev pub endOf : Leaf → End
-endOf x = record { last = 4096 + x .slot; form = rowOf x }
+endOf x = record { last = nodesLimit + x .slot; form = rowOf x }
 
 abbrev pub ends : List Leaf → List End
 ends xs = map endOf xs
@@ -53,7 +54,7 @@ last s = subst Last (reverse-reverse s) (go (reverse s))
 -- Every node from 4,096 on is a rule's, and no form is a proper beginning of another or too long.
 pub record Hanging (m : Shape) (xs : List Leaf) : Type 0 where
   pub passes : Passes m (ends xs)
-  pub all : (n : ℕ) → 4096 ≤ n → Used m n → (x : Leaf) × List·Memᴰ x xs × (4096 + x .slot ≡ n)
+  pub all : (n : ℕ) → nodesLimit ≤ n → Used m n → (x : Leaf) × List·Memᴰ x xs × (nodesLimit + x .slot ≡ n)
   pub free : (x y : Leaf) → List·Memᴰ x xs → List·Memᴰ y xs → (s : List ℕ) → x .form ++ s ≡ y .form → s ≡ []
   pub few : (x : Leaf) → List·Memᴰ x xs → length (x .form) ≤ 32
 
@@ -81,7 +82,7 @@ module _ {m : Shape} {xs : List Leaf} (h : Hanging m xs) where
   pub rows-short : Short (forms (ends xs))
   rows-short f i = let a = of-end {xs = xs} i in omega (arith, sym (length-append (a .0 .form) (a .0 .number ∷ [])) ∙ ap length (a .2), h .few (a .0) (a .1))
 
-  leaf-up : (x : Leaf) → List·Memᴰ x xs → Up m (suc (4096 + x .slot)) (reverse (rowOf x))
+  leaf-up : (x : Leaf) → List·Memᴰ x xs → Up m (suc (nodesLimit + x .slot)) (reverse (rowOf x))
   leaf-up x i = h .passes .ways (endOf x) (Memᴰ·map endOf i)
 
   -- a beginning of a row is one of its form, or the whole row
@@ -92,7 +93,7 @@ module _ {m : Shape} {xs : List Leaf} (h : Hanging m xs) where
       go none e = inl (sym (append-nil p) ∙ e)
       go (some t z) e = inr (t, last-cell (p ++ t) f (append-assoc p t (z ∷ []) ∙ e) .0)
 
-  begins : (n : ℕ) (r : List ℕ) → n < 4096 → Up m (suc n) r → Begins (reverse r) (bases xs)
+  begins : (n : ℕ) (r : List ℕ) → n < nodesLimit → Up m (suc n) r → Begins (reverse r) (bases xs)
   begins n r l u = by (of-end (b .among))
     where
       b : Begins (reverse r) (forms (ends xs))
@@ -104,16 +105,16 @@ module _ {m : Shape} {xs : List Leaf} (h : Hanging m xs) where
           go : (reverse r ≡ rowOf (a .0)) ⊎ ((u : List ℕ) × (reverse r ++ u ≡ a .0 .form)) → Begins (reverse r) (bases xs)
           go (inl e) =
               let same : r ≡ reverse (rowOf (a .0)) = sym (reverse-reverse r) ∙ ap reverse e in
-              let q = up-one (passes-tree (h .passes)) u (subst (λ (z : List ℕ). Up m (suc (4096 + a .0 .slot)) z) (sym same) (leaf-up (a .0) (a .1))) in
+              let q = up-one (passes-tree (h .passes)) u (subst (λ (z : List ℕ). Up m (suc (nodesLimit + a .0 .slot)) z) (sym same) (leaf-up (a .0) (a .1))) in
               absurd (omega (arith, suc-inj q))
           go (inr v) = record { form = a .0 .form; among = Memᴰ·map (λ (x : Leaf). x .form) (a .1); rest = v .0; is = v .1; not-empty = b .not-empty }
 
   -- a node whose row is a beginning of a form, old or new, that no form begins properly is below 4,096
   pub inner : (n : ℕ) (p f : List ℕ) → ((x : Leaf) → List·Memᴰ x xs → (s : List ℕ) → x .form ++ s ≡ f → s ≡ [])
-      → (u : List ℕ) → p ++ u ≡ f → Up m (suc n) (reverse p) → n < 4096
-  inner n p f free u e up = go (decLt n 4096)
+      → (u : List ℕ) → p ++ u ≡ f → Up m (suc n) (reverse p) → n < nodesLimit
+  inner n p f free u e up = go (decLt n nodesLimit)
     where
-      go : Dec (n < 4096) → n < 4096
+      go : Dec (n < nodesLimit) → n < nodesLimit
       go (yes l) = l
       go (no l) =
           let a = h .all n (omega arith) (up-used up) in
@@ -122,7 +123,7 @@ module _ {m : Shape} {xs : List Leaf} (h : Hanging m xs) where
           let q = free (a .0) (a .1) (a .0 .number ∷ u) (sym (append-assoc (a .0 .form) (a .0 .number ∷ []) u) ∙ ap (λ (z : List ℕ). z ++ u) (sym same) ∙ e) in
           absurd (omega (arith, ap length q))
 
-  node : (r : List ℕ) → Begins (reverse r) (bases xs) → (n : ℕ) × (n < 4096) × Up m (suc n) r
+  node : (r : List ℕ) → Begins (reverse r) (bases xs) → (n : ℕ) × (n < nodesLimit) × Up m (suc n) r
   node r b =
       let x = Memᴰ·of-map (λ (x : Leaf). x .form) xs (b .among) in
       let row : Begins (reverse r) (forms (ends xs)) = record {

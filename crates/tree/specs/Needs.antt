@@ -4,6 +4,7 @@ use mathlib.Core.List.{List}
 use mathlib.Core.Bool.{false}
 use Prim.Native.Nat.{ℕ, suc, _+_, _≤_, _<_}
 use lib.ListN.{length, getD}
+use Rattle.layout.specs.Layout.{nodesLimit, lastLink, treeWords}
 use Rattle.tree.specs.Shape.{Shape, Place, Used, Live, Valid, Tree}
 use Rattle.tree.specs.Shape as shapes
 use Rattle.tree.specs.Change.{Unlinks}
@@ -13,16 +14,16 @@ use Rattle.tree.specs.Promises.{Absent, Found}
 
 -- a walk among the children of p
 pub record Ready (ws : List ℕ) (p : ℕ) : Type 0 where
-  pub size : length ws ≡ 4681
+  pub size : length ws ≡ treeWords
   pub tree : Tree (shape ws)
   pub live : Live (shape ws) p
 
 -- a place of p for the free node n with the cell c
 pub record Room (ws : List ℕ) (p b n c : ℕ) : Type 0 where
-  pub size : length ws ≡ 4681
-  pub owner : p ≤ 4608
-  pub sibling : b ≤ 4608
-  pub node : n < 4608
+  pub size : length ws ≡ treeWords
+  pub owner : p ≤ lastLink
+  pub sibling : b ≤ lastLink
+  pub node : n < lastLink
   pub cell : c < 65536
   pub free : shape ws .used n ≡ false
   pub valid : Valid (shape ws) (place p b)
@@ -34,17 +35,17 @@ Next m form l i b = i < length form → Found m l b (getD form i 0)
 
 -- the cells of the form from i on are to grow under l, the first of them behind b, and there is room for them
 pub record Growing (ws : List ℕ) (l b : ℕ) (form : List ℕ) (i : ℕ) : Type 0 where
-  pub size : length ws ≡ 4681
+  pub size : length ws ≡ treeWords
   pub tree : Tree (shape ws)
   pub live : Live (shape ws) l
   pub absent : i < length form → Absent (shape ws) l (getD form i 0)
   pub found : Next (shape ws) form l i b
-  pub room : tally (shape ws .used) 4096 + length form ≤ 4096 + i
+  pub room : tally (shape ws .used) nodesLimit + length form ≤ nodesLimit + i
   pub within : i ≤ length form
 
 pub record Leaf (ws : List ℕ) (n : ℕ) : Type 0 where
-  pub size : length ws ≡ 4681
-  pub node : n < 4608
+  pub size : length ws ≡ treeWords
+  pub node : n < lastLink
   pub tree : Tree (shape ws)
   pub used : Used (shape ws) n
   pub leaf : shape ws .first (suc n) ≡ 0

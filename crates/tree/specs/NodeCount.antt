@@ -9,6 +9,7 @@ use lib.Dec.{eqb}
 use lib.ListN.{length, length-append, length-map}
 use native.Mathlib.Nat.{suc-inj}
 use borrow.Author.Tests.{eqb-true}
+use Rattle.layout.specs.Layout.{nodesLimit}
 use Rattle.term.specs.Beginnings.{Begins, Distinct, inits, nodes}
 use Rattle.term.specs.Distinct.{distinct-append, distinct-map}
 use Rattle.term.specs.Counting.{cons-eq, nodes-of, of-beginnings, to-beginnings, inits-distinct, inits-length}
@@ -26,8 +27,8 @@ node-count fs = nodes eqb fs
 pub record Numbered (m : Shape) (fs : List (List ℕ)) : Type 0 where
   pub tree : Tree m
   pub short : (n : ℕ) (r : List ℕ) → Up m (suc n) r → length r ≤ 33
-  pub begins : (n : ℕ) (r : List ℕ) → n < 4096 → Up m (suc n) r → Begins (reverse r) fs
-  pub node : (r : List ℕ) → Begins (reverse r) fs → (n : ℕ) × (n < 4096) × Up m (suc n) r
+  pub begins : (n : ℕ) (r : List ℕ) → n < nodesLimit → Up m (suc n) r → Begins (reverse r) fs
+  pub node : (r : List ℕ) → Begins (reverse r) fs → (n : ℕ) × (n < nodesLimit) × Up m (suc n) r
 
 of-inits : (f : List ℕ) {p : List ℕ} → List·Memᴰ p (inits f) → (¬ (p ≡ [])) × ((s : List ℕ) × (p ++ s ≡ f))
 of-inits f i = let b = of-beginnings (f ∷ []) (Memᴰ·append-left [] i) in (b .not-empty, (b .rest, b .is ∙ List·Memᴰ·eq-of-singleton (b .among)))
@@ -72,17 +73,17 @@ module _ (m : Shape) (fs : List (List ℕ)) (h : Numbered m fs) where
       suc-inj (up-one (h .tree) (a .1) (subst (λ (z : List ℕ). Up m (suc n) z) (sym same) (b .1)))
 
   prefixes : List (List ℕ)
-  prefixes = map prefix (listed (m .used) 4096)
+  prefixes = map prefix (listed (m .used) nodesLimit)
 
-  to-prefixes : (n : ℕ) (r : List ℕ) → n < 4096 → Up m (suc n) r → List·Memᴰ (reverse r) prefixes
+  to-prefixes : (n : ℕ) (r : List ℕ) → n < nodesLimit → Up m (suc n) r → List·Memᴰ (reverse r) prefixes
   unfolding prefixes
-  to-prefixes n r l x = Memᴰ·cast (sym (prefix-is n r x)) (Memᴰ·map prefix (to-listed (m .used) 4096 n (up-used x) l))
+  to-prefixes n r l x = Memᴰ·cast (sym (prefix-is n r x)) (Memᴰ·map prefix (to-listed (m .used) nodesLimit n (up-used x) l))
 
-  of-prefixes : {p : List ℕ} → List·Memᴰ p prefixes → (n : ℕ) × (n < 4096) × Up m (suc n) (reverse p)
+  of-prefixes : {p : List ℕ} → List·Memᴰ p prefixes → (n : ℕ) × (n < nodesLimit) × Up m (suc n) (reverse p)
   unfolding prefixes
   of-prefixes {p} i =
-      let q = Memᴰ·of-map prefix (listed (m .used) 4096) i in
-      let o = of-listed (m .used) 4096 (q .1) in
+      let q = Memᴰ·of-map prefix (listed (m .used) nodesLimit) i in
+      let o = of-listed (m .used) nodesLimit (q .1) in
       let r = h .tree .rooted (q .0) (o .0) in
       (q .0, o .1, subst (λ (z : List ℕ). Up m (suc (q .0)) z) (prefix-row (q .0) (r .0) (r .1) ∙ ap reverse (q .2)) (r .1))
 
@@ -95,21 +96,21 @@ module _ (m : Shape) (fs : List (List ℕ)) (h : Numbered m fs) where
 
   prefixes-distinct : Distinct prefixes
   unfolding prefixes
-  prefixes-distinct = distinct-map prefix (listed (m .used) 4096) (listed-distinct (m .used) 4096)
-      (λ k n i j e. one-prefix k n (of-listed (m .used) 4096 i .0) (of-listed (m .used) 4096 j .0) e)
+  prefixes-distinct = distinct-map prefix (listed (m .used) nodesLimit) (listed-distinct (m .used) nodesLimit)
+      (λ k n i j e. one-prefix k n (of-listed (m .used) nodesLimit i .0) (of-listed (m .used) nodesLimit j .0) e)
 
-  prefixes-length : length prefixes ≡ tally (m .used) 4096
+  prefixes-length : length prefixes ≡ tally (m .used) nodesLimit
   unfolding prefixes
-  prefixes-length = length-map (listed (m .used) 4096) prefix ∙ length-listed (m .used) 4096
+  prefixes-length = length-map (listed (m .used) nodesLimit) prefix ∙ length-listed (m .used) nodesLimit
 
-  pub nodes-are : node-count fs ≡ tally (m .used) 4096
+  pub nodes-are : node-count fs ≡ tally (m .used) nodesLimit
   nodes-are = sym (nodes-of eqb eqb-true eqb-exact fs prefixes prefixes-distinct prefixes-begin) ∙ prefixes-length
 
   -- With one form more: s is the longest beginning of it that has nodes, all below 4,096, down to the link l, and t is what is missing
   module _ (new : List (List ℕ)) (x : List ℕ) (of : (f : List ℕ) → List·Memᴰ f new → (f ≡ x) ⊎ List·Memᴰ f fs)
       (kept : (f : List ℕ) → List·Memᴰ f fs → List·Memᴰ f new) (joined : List·Memᴰ x new)
       (s t : List ℕ) (l : ℕ) (form : x ≡ s ++ t) (at : Up m l (reverse s))
-      (below : (n : ℕ) (p u : List ℕ) → p ++ u ≡ s → Up m (suc n) (reverse p) → n < 4096)
+      (below : (n : ℕ) (p u : List ℕ) → p ++ u ≡ s → Up m (suc n) (reverse p) → n < nodesLimit)
       (absent : (d : ℕ) (u : List ℕ) → t ≡ d ∷ u → (n : ℕ) → Used m n → m .parent n ≡ l → ¬ (m .cell n ≡ d)) where
     extra : List (List ℕ)
     extra = map (λ u. s ++ u) (inits t)
@@ -178,7 +179,7 @@ module _ (m : Shape) (fs : List (List ℕ)) (h : Numbered m fs) where
               is = ap (λ (z : List ℕ). z ++ b .1 .0) (sym (w .2)) ∙ append-assoc s (w .0) (b .1 .0) ∙ ap (λ (z : List ℕ). s ++ z) (b .1 .1) ∙ sym form;
             }
 
-    pub nodes-more : node-count new ≡ tally (m .used) 4096 + length t
+    pub nodes-more : node-count new ≡ tally (m .used) nodesLimit + length t
     unfolding extra
     nodes-more =
         sym (nodes-of eqb eqb-true eqb-exact new (prefixes ++ extra)

@@ -9,6 +9,7 @@ use native.Mathlib.Omega.{arith}
 use native.Mathlib.Decide.{ℕ-discrete}
 use lib.ListN.{length}
 use native.Mathlib.Nat.{suc-inj}
+use Rattle.layout.specs.Layout.{nodesLimit}
 use Rattle.term.specs.Counting.{true≢false}
 use Rattle.tree.specs.Basics.{up-used, up-parent}
 use Rattle.tree.specs.Shape.{Shape, Place, child, Used, owner, Up, down, On, here, above, Tree, End, Covered, Passes, Joins, forms, PrefixFree}
@@ -135,7 +136,7 @@ grown-partly {ends = ends} {q = q} (more {r = r} {m = m} {m′ = m′} {c = c} {
     link-partly m m′ ends s c n (r ++ q) (subst (λ (z : ℕ). Partly m ends z (r ++ q)) (sym o) (grown-partly g p)) so k
 
 -- what is said of rules, which are no nodes of forms, stays
-pub grown-rules : {m₀ m : Shape} {l₀ l : ℕ} {r : List ℕ} → Grown m₀ l₀ r m l → (y : ℕ) → 4096 ≤ y → (m .used y ≡ m₀ .used y) × (m .cell y ≡ m₀ .cell y)
+pub grown-rules : {m₀ m : Shape} {l₀ l : ℕ} {r : List ℕ} → Grown m₀ l₀ r m l → (y : ℕ) → nodesLimit ≤ y → (m .used y ≡ m₀ .used y) × (m .cell y ≡ m₀ .cell y)
 grown-rules none y h = (refl, refl)
 grown-rules (more {n = n} s g lo so o k) y h =
     let q = grown-rules g y h in

@@ -7,6 +7,7 @@ use Prim.Native.Nat.{ℕ, suc, _+_, _-_, _≤_, _<_}
 use native.Mathlib.Omega.{arith}
 use lib.ListN.{length, take, drop, take-append-drop, length-drop, length-reverse}
 use lib.Seq.{drop-cons}
+use Rattle.layout.specs.Layout.{nodesLimit}
 use Rattle.tree.specs.Shape.{Up, End, Passes, Shape, down, On, Covered}
 use Rattle.tree.specs.Rows.{up-same, on-row}
 use Rattle.tree.specs.Partly.{Partly, begin-add, grown-partly, on-short}
@@ -27,13 +28,13 @@ module _ (ws ws′ form : List ℕ) (link : ℕ) (p : Planted ws ws′ form link
   module _ (xs : List Leaf) (hang : Hanging (shape ws) xs) (free : (x : Leaf) → List·Memᴰ x xs → (s : List ℕ) → x .form ++ s ≡ form → s ≡ [])
       (new : List (List ℕ)) (of : (f : List ℕ) → List·Memᴰ f new → (f ≡ form) ⊎ List·Memᴰ f (bases xs))
       (kept : (f : List ℕ) → List·Memᴰ f (bases xs) → List·Memᴰ f new) (joined : List·Memᴰ form new) where
-    pub count-new : node-count new ≡ tally (shape ws .used) 4096 + (length form - p .depth)
+    pub count-new : node-count new ≡ tally (shape ws .used) nodesLimit + (length form - p .depth)
     count-new =
         nodes-more (shape ws) (bases xs) (numbered hang) new form of kept joined (take (p .depth) form) (drop (p .depth) form) (p .at)
         (sym (take-append-drop (p .depth) form)) (p .descended .at) below missing
-        ∙ ap (λ (k : ℕ). tally (shape ws .used) 4096 + k) (length-drop (p .depth) form)
+        ∙ ap (λ (k : ℕ). tally (shape ws .used) nodesLimit + k) (length-drop (p .depth) form)
       where
-        below : (n : ℕ) (q u : List ℕ) → q ++ u ≡ take (p .depth) form → Up (shape ws) (suc n) (reverse q) → n < 4096
+        below : (n : ℕ) (q u : List ℕ) → q ++ u ≡ take (p .depth) form → Up (shape ws) (suc n) (reverse q) → n < nodesLimit
         below n q u e up = inner hang n q form free (u ++ drop (p .depth) form)
             (sym (append-assoc q u (drop (p .depth) form)) ∙ ap (λ (z : List ℕ). z ++ drop (p .depth) form) e ∙ take-append-drop (p .depth) form) up
 
@@ -42,10 +43,10 @@ module _ (ws ws′ form : List ℕ) (link : ℕ) (p : Planted ws ws′ form link
             let h : p .depth < length form = omega (arith, length-drop (p .depth) form, ap length q) in
             subst (λ (k : ℕ). Absent (shape ws) (p .at) k) (head-eq-of-cons-eq (sym (drop-cons form (p .depth) 0 h) ∙ q)) (p .descended .absent h)
 
-    pub planted-full : link ≡ 0 → 4096 < node-count new
+    pub planted-full : link ≡ 0 → nodesLimit < node-count new
     planted-full e = rw count-new (p .full e .1)
 
-    pub planted-fits : ¬ (link ≡ 0) → node-count new ≤ 4096
+    pub planted-fits : ¬ (link ≡ 0) → node-count new ≤ nodesLimit
     planted-fits h = rw count-new (p .fits h)
 
 -- no rule below the form's last node has a number that none of the rules of that form has

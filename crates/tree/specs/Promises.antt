@@ -5,6 +5,7 @@ use mathlib.Core.List.{List, reverse}
 use mathlib.Core.Bool.{true, false}
 use Prim.Native.Nat.{ℕ, suc, _+_, _-_, _≤_, _<_}
 use lib.ListN.{length, getD, take, drop}
+use Rattle.layout.specs.Layout.{ruleNumbers, nodesLimit, rulesLimit, treeWords}
 use Rattle.tree.specs.Shape.{Shape, Place, Used, Live, Valid, to, owner, floor, Up, Tree}
 use Rattle.tree.specs.Change.{Grown, Links, Sorted}
 use Rattle.tree.specs.Tally.{tally, marked}
@@ -12,7 +13,7 @@ use Rattle.tree.specs.Words.{cellOf, parentOf, nextOf, shape, place}
 
 -- the length of the memory, and a tree in it
 pub record Sound (ws : List ℕ) : Type 0 where
-  pub size : length ws ≡ 4681
+  pub size : length ws ≡ treeWords
   pub tree : Tree (shape ws)
 
 -- the bit n of a map is set
@@ -47,17 +48,17 @@ pub record Planted (ws ws′ form : List ℕ) (link : ℕ) : Type 0 where
   pub at : ℕ
   pub depth : ℕ
   pub descended : Descended (shape ws) form at depth
-  pub full : link ≡ 0 → (ws′ ≡ ws) × (4096 < tally (shape ws .used) 4096 + (length form - depth))
-  pub fits : ¬ (link ≡ 0) → tally (shape ws .used) 4096 + (length form - depth) ≤ 4096
+  pub full : link ≡ 0 → (ws′ ≡ ws) × (nodesLimit < tally (shape ws .used) nodesLimit + (length form - depth))
+  pub fits : ¬ (link ≡ 0) → tally (shape ws .used) nodesLimit + (length form - depth) ≤ nodesLimit
   pub grown : ¬ (link ≡ 0) → Grown (shape ws) at (reverse (drop depth form)) (shape ws′) link
 
 -- A rule's place r is free, and no rule below the link p has its number
 pub record Hangable (ws : List ℕ) (p r number : ℕ) : Type 0 where
   pub sound : Sound ws
   pub live : Live (shape ws) p
-  pub place : r < 512
-  pub free : shape ws .used (4096 + r) ≡ false
-  pub low : number < 4096
+  pub place : r < rulesLimit
+  pub free : shape ws .used (nodesLimit + r) ≡ false
+  pub low : number < ruleNumbers
   pub absent : Absent (shape ws) p number
 
 -- The rule r hangs below p, at its number's place
@@ -65,7 +66,7 @@ pub record Hung (m m′ : Shape) (p r number : ℕ) : Type 0 where
   pub at : Place
   pub below : owner m at ≡ p
   pub sorted : Sorted m at number
-  pub links : Links m m′ at number (4096 + r)
+  pub links : Links m m′ at number (nodesLimit + r)
 
 -- The link f leads to a used sibling further on than the node with the word w, with a cell of `most` at the most
 pub record Further (m : Shape) (w most f : ℕ) : Type 0 where

@@ -1,9 +1,10 @@
--- The layout: 64 words with the map of the nodes and 8 with the map of the rules, then a word for each link, the root's first: cell, parent,
+-- The words of a tree as crates/layout/specs/Layout draws them: the two maps, and a word for each link, the root's first: cell, parent,
 -- first child, next sibling, 16 bits each, the top field first. Rule r hangs in the tree as the node 4,096 + r
 use mathlib.Core.Path.{_≡_}
 use mathlib.Core.List.{List}
 use Prim.Native.Nat.{ℕ, zero, suc, _+_, _/_, _%_}
 use lib.ListN.{getD, take}
+use Rattle.layout.specs.Layout.{mapWords, linksAt}
 use Rattle.tree.specs.Shape.{Shape, Place, child, after}
 use Rattle.tree.specs.Tally.{marked}
 
@@ -21,11 +22,11 @@ nextOf w = w % 65536
 
 -- the word of a link
 abbrev pub word : List ℕ → ℕ → ℕ
-word ws l = getD ws (72 + l) 0
+word ws l = getD ws (linksAt + l) 0
 
 abbrev pub shape : List ℕ → Shape
 shape ws = record {
-  used = marked (take 72 ws);
+  used = marked (take mapWords ws);
   cell = λ n. cellOf (word ws (suc n));
   parent = λ n. parentOf (word ws (suc n));
   next = λ n. nextOf (word ws (suc n));

@@ -1,14 +1,13 @@
-// The tree in lent memory of 4,681 words: one node for each different beginning of the forms that it holds, and the rules
-// below the last nodes of their forms.
+// The tree in lent memory: one node for each different beginning of the forms that it holds, and the rules below the last nodes of
+// their forms. The crate `layout` says where its words stand:
 //
-//   word 0 to 63      the node map: node n is bit n % 64, the most significant first, of word n / 64
-//   word 64 to 71     the rule map: rule r is bit r % 64 of word 64 + r / 64
-//   word 72 + l       the link l: 0 is the root, n + 1 the node n
-//                     | cell | parent | first child | next sibling |   16 bits each
+//   the node map    node n is bit n % 64, the most significant first, of word n / 64
+//   the rule map    rule r is bit r % 64 of word r / 64
+//   the links       a word each: 0 is the root, n + 1 the node n
+//                   | cell | parent | first child | next sibling |   16 bits each
 //
-// The two maps are one: rule r hangs in the tree as the node 4,096 + r, and its number is its cell. Nodes of forms are below
-// 4,096, numbers of nodes below 4,608. Parent, first child and next sibling are links; 0 is the root or none. Siblings ascend
-// by cell.
+// The two maps are one: behind the nodes of forms stand the rules, as nodes too. The rule at place r is the node 4,096 + r, and its
+// number is its cell. Parent, first child and next sibling are links; 0 is the root or none. Siblings ascend by cell.
 pub mod signs;
 
 ghost use mathlib.Core.Path.{_≡_};
@@ -16,6 +15,7 @@ ghost use mathlib.Core.List.{reverse};
 ghost use mathlib.Core.Bool.{true, false};
 ghost use Prim.Native.Nat.{suc, _+_, _<_, _≤_};
 ghost use lib.ListN.{length};
+ghost use Rattle.layout.specs.Layout.{nodesLimit, lastLink, treeWords, signWords};
 ghost use Rattle.tree.specs.Shape.{Used, to};
 ghost use Rattle.tree.specs.Tally.{tally};
 ghost use Rattle.tree.specs.Change.{Links, Grown, Trimmed};
@@ -24,12 +24,6 @@ ghost use Rattle.tree.specs.Words.{cellOf, parentOf, firstOf, nextOf, No
 ghost use Rattle.tree.specs.Promises.{Sound, Before, Found, Descended, Planted, Hangable, Hung};
 ghost use Rattle.tree.specs.Needs.{Ready, Room, Next, Growing, Leaf, Unlinked};
 
-// How many nodes of forms there is room for.
-pub const NODES: usize = 4096;
-// How many rules.
-pub const RULES: usize = 512;
-// The last link: behind the root stand the nodes, and behind them the rules.
-pub const LAST: usize = NODES + RULES;
 // The mark of a blank, as wide as the cell of a word.
 pub const MARK: u64 = term::MARK as u64;
 
@@ -92,29 +86,29 @@ fn wide(x: u16) -> u64
 // ---- places: among the children of p the one after the sibling b, or the first where b is 0
 
 fn get_link(m: &[u64], p: usize, b: usize) -> usize
-    requires { ⌜ length (now m) ≡ 4681 ⌝ }
-    requires { ⌜ p ≤ 4608 ⌝ }
-    requires { ⌜ b ≤ 4608 ⌝ }
+    requires { ⌜ length (now m) ≡ treeWords ⌝ }
+    requires { ⌜ p ≤ lastLink ⌝ }
+    requires { ⌜ b ≤ lastLink ⌝ }
     ensures { λ r. ⌜ to (shape (now (m .entry))) (place p b) ≡ r ⌝ }
 {
     if b == 0 {
-        first_of(m[72 + p]) as usize
+        first_of(m[layout::LINKS_AT + p]) as usize
     } else {
-        next_of(m[72 + b]) as usize
+        next_of(m[layout::LINKS_AT + b]) as usize
     }
 }
 
 fn put_link(m: &mut [u64], p: usize, b: usize, x: u64)
-    requires { ⌜ length (now m) ≡ 4681 ⌝ }
-    requires { ⌜ p ≤ 4608 ⌝ }
-    requires { ⌜ b ≤ 4608 ⌝ }
+    requires { ⌜ length (now m) ≡ treeWords ⌝ }
+    requires { ⌜ p ≤ lastLink ⌝ }
+    requires { ⌜ b ≤ lastLink ⌝ }
     requires { ⌜ x < 65536 ⌝ }
     ensures { λ r. ⌜ Puts (shape (now (m .entry))) (shape (now (m .exit))) (place p b) x ⌝ }
 {
     if b == 0 {
-        m[72 + p] = with_first(m[72 + p], x);
+        m[layout::LINKS_AT + p] = with_first(m[layout::LINKS_AT + p], x);
     } else {
-        m[72 + b] = with_next(m[72 + b], x);
+        m[layout::LINKS_AT + b] = with_next(m[layout::LINKS_AT + b], x);
     }
 }
 
@@ -128,7 +122,7 @@ fn find(m: &[u64], p: usize, from: usize, c: u64) -> usize
     let mut b = from;
     let mut x = get_link(m, p, from);
     while x != 0 {
-        let w = m[72 + x];
+        let w = m[layout::LINKS_AT + x];
         if cell_of(w) >= c {
             return b;
         }
@@ -150,7 +144,7 @@ pub struct Down {
 
 pub fn descend(m: &[u64], signs: &[u64], form: &[u16]) -> Down
     requires { ⌜ Sound (now m) ⌝ }
-    requires { ⌜ length (now signs) ≡ 2305 ⌝ }
+    requires { ⌜ length (now signs) ≡ signWords ⌝ }
     ensures { λ r. ⌜ Descended (shape (now (m .entry))) (now (form .entry)) (r .link) (r .depth) ⌝ }
     ensures next { λ r. ⌜ Next (shape (now (m .entry))) (now (form .entry)) (r .link) (r .depth) (r .behind) ⌝ }
 {
@@ -167,7 +161,7 @@ pub fn descend(m: &[u64], signs: &[u64], form: &[u16]) -> Down
                 behind: b,
             };
         }
-        if cell_of(m[72 + x]) != c {
+        if cell_of(m[layout::LINKS_AT + x]) != c {
             return Down {
                 link: l,
                 depth: i,
@@ -190,9 +184,9 @@ fn link(m: &mut [u64], p: usize, b: usize, n: usize, c: u64)
     ensures { λ r. ⌜ Links (shape (now (m .entry))) (shape (now (m .exit))) (place p b) c n ⌝ }
 {
     let x = get_link(m, p, b);
-    m[73 + n] = pack(c, p as u64, 0, x as u64);
+    m[layout::NODES_AT + n] = pack(c, p as u64, 0, x as u64);
     put_link(m, p, b, n as u64 + 1);
-    bits::mark(&mut m[0..72], n);
+    bits::mark(&mut m[0..layout::MAP_WORDS], n);
 }
 
 // A chain of new nodes with the cells of a form, the first under l, behind its child b: the link of the last. A new node has no
@@ -207,7 +201,7 @@ fn grow(m: &mut [u64], l: usize, b: usize, form: &[u16]) -> usize
     let mut i: usize = 0;
     while i < form.len() {
         let c = wide(form[i]);
-        let n = bits::lowest_free_from(&m[0..64], full);
+        let n = bits::lowest_free_from(&m[0..layout::NODE_MAP_WORDS], full);
         link(m, at, behind, n, c);
         at = n + 1;
         behind = 0;
@@ -220,15 +214,15 @@ fn grow(m: &mut [u64], l: usize, b: usize, form: &[u16]) -> usize
 // Are as many nodes free? Always the lowest free node is taken, so the last word of the map is nearly always 0: then 64 are, and
 // the others need no count.
 fn has_nodes(m: &[u64], missing: usize) -> bool
-    requires { ⌜ (length (now m) ≡ 4681) × (missing ≤ 32) ⌝ }
-    ensures yes { λ r. ⌜ (r ≡ true → tally (shape (now (m .entry)) .used) 4096 + missing ≤ 4096) ⌝ }
-    ensures no { λ r. ⌜ (r ≡ false → 4096 < tally (shape (now (m .entry)) .used) 4096 + missing) ⌝ }
+    requires { ⌜ (length (now m) ≡ treeWords) × (missing ≤ 32) ⌝ }
+    ensures yes { λ r. ⌜ (r ≡ true → tally (shape (now (m .entry)) .used) nodesLimit + missing ≤ nodesLimit) ⌝ }
+    ensures no { λ r. ⌜ (r ≡ false → nodesLimit < tally (shape (now (m .entry)) .used) nodesLimit + missing) ⌝ }
 {
-    if m[63] == 0 {
+    if m[layout::NODE_MAP_LAST] == 0 {
         return true;
     }
-    let held = bits::count(&m[0..64]);
-    if held + missing > NODES {
+    let held = bits::count(&m[0..layout::NODE_MAP_WORDS]);
+    if held + missing > layout::NODES_LIMIT {
         return false;
     }
     true
@@ -259,7 +253,7 @@ pub fn hang(m: &mut [u64], p: usize, r: usize, number: u64)
     ensures { λ _. ⌜ Hung (shape (now (m .entry))) (shape (now (m .exit))) p r number ⌝ }
 {
     let b = find(m, p, 0, number);
-    link(m, p, b, NODES + r, number);
+    link(m, p, b, layout::NODES_LIMIT + r, number);
 }
 
 // ---- removing
@@ -269,11 +263,11 @@ fn unlink(m: &mut [u64], n: usize)
     requires { ⌜ Leaf (now m) n ⌝ }
     ensures { λ r. ⌜ Unlinked (shape (now (m .entry))) (shape (now (m .exit))) n ⌝ }
 {
-    let w = m[73 + n];
+    let w = m[layout::NODES_AT + n];
     let p = parent_of(w) as usize;
     let b = find(m, p, 0, cell_of(w));
     put_link(m, p, b, next_of(w));
-    bits::clear(&mut m[0..72], n);
+    bits::clear(&mut m[0..layout::MAP_WORDS], n);
 }
 
 // From the node `last` up, each node that has no child goes.
@@ -284,7 +278,7 @@ pub fn trim(m: &mut [u64], last: usize)
 {
     let mut l = last + 1;
     while l != 0 {
-        let w = m[72 + l];
+        let w = m[layout::LINKS_AT + l];
         if first_of(w) != 0 {
             return;
         }

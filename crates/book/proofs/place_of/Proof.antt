@@ -4,6 +4,7 @@ use borrow.Author.Tests.{not-true, not-false}
 use mathlib.Core.Path.{_≡_, sym, ap, _∙_}
 use Prim.Native.Nat.{ℕ}
 use lib.ListN.{getD, take, drop}
+use Rattle.layout.specs.Layout.{placesAt, placeWords}
 use Rattle.bits.specs.Packed.{fields}
 use Rattle.book.specs.Memory.{view}
 use Rattle.book.specs.Looking.{too-high, not-taken, other-number, found}
@@ -14,7 +15,7 @@ use Rattle.book.proofs.place_of.Tie as tie
 read : (k : tie.After-size-of2) → k .size-of2 .result ≡ view (k .before .before .before .before .before .args .m .now) .place (k .before .before .before .before .before .args .number)
 read k =
     k .size-of2 .ensures ∙ k .before .field .ensures
-    ∙ ap (λ (i : ℕ). getD (fields (take 1024 (drop 6986 (k .before .before .before .before .before .args .m .now)))) i 0) (k .before .before .size-of .ensures)
+    ∙ ap (λ (i : ℕ). getD (fields (take placeWords (drop placesAt (k .before .before .before .before .before .args .m .now)))) i 0) (k .before .before .size-of .ensures)
 
 returns : tie.Need-returns
 returns c =

@@ -4,6 +4,7 @@ use mathlib.Core.Path.{_≡_, ap, _∙_}
 use Prim.Native.Nat.{ℕ, _+_, _*_, _-_}
 use native.Mathlib.Omega.{arith}
 use lib.ListN.{getD, take, drop}
+use Rattle.layout.specs.Layout.{termWords, recordWords, recordsAt, termsAt}
 use Rattle.bits.specs.Packed.{fields}
 use Rattle.book.specs.Placing.{Placed, not-placed, placed, shows-nothing, shows-rule}
 use Rattle.book.proofs.show.Statement.{statement}
@@ -44,10 +45,10 @@ returns-2 c =
     let i = c .before .before .before in
     let s = i .before .before .before in
     let r = i .before .place-of .result in
-    let e : 8011 + 9 * r - 1 ≡ 8010 + 9 * r = omega arith in
-    let w : 8011 + 9 * r + 8 - (8011 + 9 * r) ≡ 8 = omega arith in
+    let e : termsAt + recordWords * r - 1 ≡ recordsAt + recordWords * r = omega arith in
+    let w : termsAt + recordWords * r + termWords - (termsAt + recordWords * r) ≡ termWords = omega arith in
     shows-rule (s .args .m .now) (s .args .number) r _ (c .before .load .result) (s .pre .0) (here i) (ap (λ (k : ℕ). getD (s .args .m .now) k 0) e)
-    (c .before .load .ensures ∙ ap (λ (k : ℕ). fields (take k (drop (8011 + 9 * r) (s .args .m .now)))) w)
+    (c .before .load .ensures ∙ ap (λ (k : ℕ). fields (take k (drop (termsAt + recordWords * r) (s .args .m .now)))) w)
 
 pub show-spec : {M : Type 1} → statement M
 show-spec =

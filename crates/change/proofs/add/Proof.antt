@@ -5,6 +5,7 @@ use Prim.Native.Nat.{ℕ, _+_, _-_, _≤_}
 use native.Mathlib.Omega.{arith}
 use borrow.Author.Needs.{needs}
 use lib.ListN.{length, take, drop, length-map, length-take, length-drop}
+use Rattle.layout.specs.Layout.{rulesLimit, treeWords, signsAt, signWords, bookWords}
 use Rattle.tree.specs.Words.{shape}
 use Rattle.tree.specs.Promises.{Hangable, Hung}
 use Rattle.book.specs.Rules.{nothing}
@@ -55,7 +56,7 @@ returns-2 c =
     let s = start f in
     book-full (s .args .m .now) (s .args .number) (s .args .term .now) (s .pre .0) (new f) (f .lowest-free .result) (f .lowest-free .ensures) (c .if2 .taken)
 
-short : (f : tie.After-lowest-free) (e : ¬ (f .lowest-free .result ≡ 512)) → (1 ≤ length (start f .args .term .now)) × (length (start f .args .term .now) ≤ 32)
+short : (f : tie.After-lowest-free) (e : ¬ (f .lowest-free .result ≡ rulesLimit)) → (1 ≤ length (start f .args .term .now)) × (length (start f .args .term .now) ≤ 32)
 short f e =
     let s = start f in
     let t = term-whole (s .args .m .now) (s .args .number) (s .args .term .now) (s .pre .0) (new f) (f .lowest-free .result) (f .lowest-free .ensures) e (s .pre .1 .1) in
@@ -73,7 +74,7 @@ descend-requires c κs =
     let f = r .before .before in
     let s = start f in (
       sound (s .args .m .now) (s .args .number) (s .args .term .now) (s .pre .0) (new f) (f .lowest-free .result) (f .lowest-free .ensures) (r .before .if2 .left) (s .pre .1 .1) (s .pre .1 .0),
-      omega (arith, length-take 2305 (drop 4681 (s .args .m .now)), length-drop 4681 (s .args .m .now), s .pre .0 .size),
+      omega (arith, length-take signWords (drop signsAt (s .args .m .now)), length-drop signsAt (s .args .m .now), s .pre .0 .size),
     )
 
 part-plant-end-2 : tie.Need-part-plant-end-2
@@ -100,7 +101,7 @@ returns-3 c =
     no-nodes (s .args .m .now) (s .args .number) (s .args .term .now) (s .pre .0) (new f) (f .lowest-free .result) (f .lowest-free .ensures) (r .before .if2 .left) (s .pre .1 .1) (s .pre .1 .0)
     (p .plant .last .0) (p .plant .result) _ (form-is r) (p .plant .ensures) (c .if3 .taken)
 
-tree-kept : (p : tie.After-plant) → length (p .plant .last .0) ≡ 4681
+tree-kept : (p : tie.After-plant) → length (p .plant .last .0) ≡ treeWords
 tree-kept p = let s = start (free-at p) in p .plant .kept .0 ∙ tree-long (s .args .m .now) (s .pre .0 .size)
 
 hang-requires : tie.Need-hang-requires
@@ -114,11 +115,11 @@ hang-requires c κs =
     (p .plant .last .0) (p .plant .result) _ (form-is r) (p .plant .ensures) (e .if3 .left) (tree-kept p) in
     hangs (s .args .m .now) (p .plant .last .0) (tree-kept p) (p .plant .result) (f .lowest-free .result) (s .args .number) (c .wide .result) (c .wide .ensures) h
   where
-    hangs : (ws t : List ℕ) → length t ≡ 4681 → (l r k n : ℕ) → n ≡ k → Hangable t l r k → Hangable (take 4681 (t ++ drop 4681 ws)) l r n
-    hangs ws t lt l r k n e h = subst (λ (z : ℕ). Hangable (take 4681 (t ++ drop 4681 ws)) l r z) (sym e) (subst (λ (z : List ℕ). Hangable z l r k) (sym (front-is 4681 ws t lt)) h)
+    hangs : (ws t : List ℕ) → length t ≡ treeWords → (l r k n : ℕ) → n ≡ k → Hangable t l r k → Hangable (take treeWords (t ++ drop treeWords ws)) l r n
+    hangs ws t lt l r k n e h = subst (λ (z : ℕ). Hangable (take treeWords (t ++ drop treeWords ws)) l r z) (sym e) (subst (λ (z : List ℕ). Hangable z l r k) (sym (front-is treeWords ws t lt)) h)
 
 -- the tree alone changes, twice
-one : (p : tie.After-plant) → TreeOnly (start (free-at p) .args .m .now) (p .plant .last .0 ++ drop 4681 (start (free-at p) .args .m .now)) (shape (p .plant .last .0))
+one : (p : tie.After-plant) → TreeOnly (start (free-at p) .args .m .now) (p .plant .last .0 ++ drop treeWords (start (free-at p) .args .m .now)) (shape (p .plant .last .0))
 one p = let s = start (free-at p) in tree-only (s .args .m .now) (p .plant .last .0) (s .pre .0 .size) (tree-kept p)
 
 module _ (h : tie.After-hang) where
@@ -126,23 +127,23 @@ module _ (h : tie.After-hang) where
   at = h .before .before .before .before .before .before
 
   abbrev ws₁ : List ℕ
-  ws₁ = at .plant .last .0 ++ drop 4681 (start (free-at at) .args .m .now)
+  ws₁ = at .plant .last .0 ++ drop treeWords (start (free-at at) .args .m .now)
 
-  size₁ : length ws₁ ≡ 12618
+  size₁ : length ws₁ ≡ bookWords
   size₁ = one at .long ∙ start (free-at at) .pre .0 .size
 
-  hung-kept : length (h .hang .last .0) ≡ 4681
+  hung-kept : length (h .hang .last .0) ≡ treeWords
   hung-kept = h .hang .kept .0 ∙ tree-long ws₁ size₁
 
-  two : TreeOnly ws₁ (h .hang .last .0 ++ drop 4681 ws₁) (shape (h .hang .last .0))
+  two : TreeOnly ws₁ (h .hang .last .0 ++ drop treeWords ws₁) (shape (h .hang .last .0))
   two = tree-only ws₁ (h .hang .last .0) size₁ hung-kept
 
   hung : Hung (shape (at .plant .last .0)) (shape (h .hang .last .0)) (at .plant .result) (free-at at .lowest-free .result) (start (free-at at) .args .number)
   hung =
       hangs (start (free-at at) .args .m .now) (at .plant .last .0) (tree-kept at) (h .hang .last .0) (at .plant .result) (free-at at .lowest-free .result) (start (free-at at) .args .number) (h .before .wide .result) (h .before .wide .ensures) (h .hang .ensures)
     where
-      hangs : (ws t : List ℕ) → length t ≡ 4681 → (t′ : List ℕ) (l r k n : ℕ) → n ≡ k → Hung (shape (take 4681 (t ++ drop 4681 ws))) (shape t′) l r n → Hung (shape t) (shape t′) l r k
-      hangs ws t lt t′ l r k n e h = subst (λ (z : ℕ). Hung (shape t) (shape t′) l r z) e (subst (λ (z : List ℕ). Hung (shape z) (shape t′) l r n) (front-is 4681 ws t lt) h)
+      hangs : (ws t : List ℕ) → length t ≡ treeWords → (t′ : List ℕ) (l r k n : ℕ) → n ≡ k → Hung (shape (take treeWords (t ++ drop treeWords ws))) (shape t′) l r n → Hung (shape t) (shape t′) l r k
+      hangs ws t lt t′ l r k n e h = subst (λ (z : ℕ). Hung (shape t) (shape t′) l r z) e (subst (λ (z : List ℕ). Hung (shape z) (shape t′) l r n) (front-is treeWords ws t lt) h)
 
 put-record-requires : tie.Need-put-record-requires
 put-record-requires c κs =
@@ -165,7 +166,7 @@ module _ (q : tie.After-put-record) where
   abbrev plants : tie.After-plant
   plants = hangs .before .before .before .before .before .before
 
-  long : length (q .put-record .last .0) ≡ 12618
+  long : length (q .put-record .last .0) ≡ bookWords
   long = q .put-record .kept .0 ∙ two hangs .long ∙ size₁ hangs
 
   takes : Adds (start (free-at plants) .args .m .now) (q .put-record .last .0) (start (free-at plants) .args .number) (start (free-at plants) .args .term .now) Taken

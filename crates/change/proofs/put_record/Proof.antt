@@ -1,4 +1,4 @@
--- The place of the number is one field, the length one word and the cells eight: three stores that meet nothing else.
+-- The place of the number is one field, the length one word and the cells term-long: three stores that meet nothing else.
 use mathlib.Core.Path.{_≡_, refl, ap, _∙_}
 use mathlib.Core.List.{List}
 use Prim.Native.Nat.{ℕ, _+_, _*_, _-_}
@@ -6,19 +6,20 @@ use native.Mathlib.Omega.{arith}
 use borrow.Author.Needs.{needs}
 use borrow.Rule.Slice.PartMut.{putMid}
 use lib.ListN.{length, set, take, drop, length-take, length-drop}
+use Rattle.layout.specs.Layout.{placesAt, placeWords, termWords, recordWords, termsAt, bookWords}
 use Rattle.bits.specs.Packed.{fields}
-use Rattle.change.proofs.Storing.{stored, stored-long, two-long, eight}
+use Rattle.change.proofs.Storing.{stored, stored-long, two-long, term-long}
 use Rattle.change.proofs.put_record.Statement.{statement}
 use Rattle.change.proofs.put_record.Tie as tie
 
-places-long : (ws p : List ℕ) → length p ≡ length (take 1024 (drop 6986 ws)) → length ws ≡ 12618 → length p ≡ 1024
-places-long ws p e size = omega (arith, length-take 1024 (drop 6986 ws), length-drop 6986 ws)
+places-long : (ws p : List ℕ) → length p ≡ length (take placeWords (drop placesAt ws)) → length ws ≡ bookWords → length p ≡ placeWords
+places-long ws p e size = omega (arith, length-take placeWords (drop placesAt ws), length-drop placesAt ws)
 
 part-store-end : tie.Need-part-store-end
 part-store-end c =
     let f = c .before .before in
     let s = f .before .before .before .before .before in
-    let l = two-long (s .args .m .now) (f .put-field .last .0) (8011 + 9 * s .args .r - 1) (length (s .args .term .now)) (s .pre .0) (places-long (s .args .m .now) (f .put-field .last .0) (f .put-field .kept .0) (s .pre .0)) in
+    let l = two-long (s .args .m .now) (f .put-field .last .0) (termsAt + recordWords * s .args .r - 1) (length (s .args .term .now)) (s .pre .0) (places-long (s .args .m .now) (f .put-field .last .0) (f .put-field .kept .0) (s .pre .0)) in
     omega (arith, l, s .pre .1)
 
 module _ (c : tie.After-slice-known3) where
@@ -31,26 +32,26 @@ module _ (c : tie.After-slice-known3) where
   abbrev s : tie.Start
   s = f .before .before .before .before .before
 
-  lp : length (f .put-field .last .0) ≡ 1024
+  lp : length (f .put-field .last .0) ≡ placeWords
   lp = places-long (s .args .m .now) (f .put-field .last .0) (f .put-field .kept .0) (s .pre .0)
 
-  fp : fields (f .put-field .last .0) ≡ set (fields (take 1024 (drop 6986 (s .args .m .now)))) (s .args .number) (s .args .r)
-  fp = f .put-field .ensures ∙ ap (λ (i : ℕ). set (fields (take 1024 (drop 6986 (s .args .m .now)))) i (s .args .r)) (f .before .size-of .ensures)
+  fp : fields (f .put-field .last .0) ≡ set (fields (take placeWords (drop placesAt (s .args .m .now)))) (s .args .number) (s .args .r)
+  fp = f .put-field .ensures ∙ ap (λ (i : ℕ). set (fields (take placeWords (drop placesAt (s .args .m .now)))) i (s .args .r)) (f .before .size-of .ensures)
 
-  lq : length (z .store .last .0) ≡ 8
+  lq : length (z .store .last .0) ≡ termWords
   lq =
-      let l = two-long (s .args .m .now) (f .put-field .last .0) (8011 + 9 * s .args .r - 1) (length (s .args .term .now)) (s .pre .0) lp in
-      z .store .kept .0 ∙ eight (set (putMid 6986 1024 (s .args .m .now) (f .put-field .last .0)) (8011 + 9 * s .args .r - 1) (length (s .args .term .now))) (8011 + 9 * s .args .r) (8011 + 9 * s .args .r + 8 - (8011 + 9 * s .args .r)) (omega arith) (omega (arith, l, s .pre .1))
+      let l = two-long (s .args .m .now) (f .put-field .last .0) (termsAt + recordWords * s .args .r - 1) (length (s .args .term .now)) (s .pre .0) lp in
+      z .store .kept .0 ∙ term-long (set (putMid placesAt placeWords (s .args .m .now) (f .put-field .last .0)) (termsAt + recordWords * s .args .r - 1) (length (s .args .term .now))) (termsAt + recordWords * s .args .r) (termsAt + recordWords * s .args .r + termWords - (termsAt + recordWords * s .args .r)) (omega arith) (omega (arith, l, s .pre .1))
 
 same-length : tie.Need-same-length
 same-length c =
     stored-long (s c .args .m .now) (f c .put-field .last .0) (z c .store .last .0) (s c .args .number) (s c .args .r) (length (s c .args .term .now)) (s c .args .term .now)
-    (s c .pre .0) (s c .pre .1) (s c .pre .2) (lp c) (fp c) refl (8011 + 9 * s c .args .r + 8 - (8011 + 9 * s c .args .r)) (omega arith) (lq c) (z c .store .ensures)
+    (s c .pre .0) (s c .pre .1) (s c .pre .2) (lp c) (fp c) refl (termsAt + recordWords * s c .args .r + termWords - (termsAt + recordWords * s c .args .r)) (omega arith) (lq c) (z c .store .ensures)
 
 returns : tie.Need-returns
 returns c =
     stored (s c .args .m .now) (f c .put-field .last .0) (z c .store .last .0) (s c .args .number) (s c .args .r) (length (s c .args .term .now)) (s c .args .term .now)
-    (s c .pre .0) (s c .pre .1) (s c .pre .2) (lp c) (fp c) refl (8011 + 9 * s c .args .r + 8 - (8011 + 9 * s c .args .r)) (omega arith) (lq c) (z c .store .ensures)
+    (s c .pre .0) (s c .pre .1) (s c .pre .2) (lp c) (fp c) refl (termsAt + recordWords * s c .args .r + termWords - (termsAt + recordWords * s c .args .r)) (omega arith) (lq c) (z c .store .ensures)
 
 pub put-record-spec : {M : Type 1} → statement M
 put-record-spec =

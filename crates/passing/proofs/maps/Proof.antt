@@ -4,15 +4,16 @@ use Prim.Native.Nat.{_-_, _≤_}
 use native.Mathlib.Omega.{arith}
 use borrow.Author.Needs.{needs}
 use lib.ListN.{length, length-set}
+use Rattle.layout.specs.Layout.{mapWords}
 use Rattle.passing.proofs.Ending.{CopiedTo, copied-on, copied-all}
 use Rattle.passing.proofs.maps.Statement.{statement}
 use Rattle.passing.proofs.maps.Tie as tie
 
 abbrev Inv-loop : tie.InvT-loop
-Inv-loop m left₀ i₀ left i = (length left ≡ 72) × (i ≤ 72) × CopiedTo m left i
+Inv-loop m left₀ i₀ left i = (length left ≡ mapWords) × (i ≤ mapWords) × CopiedTo m left i
 
 abbrev μ-loop : tie.MeasureT-loop
-μ-loop m left₀ i₀ left i = 72 - i
+μ-loop m left₀ i₀ left i = mapWords - i
 
 loop-holds : tie.Need-loop-holds Inv-loop μ-loop
 loop-holds c = (refl, omega arith, λ j l. absurd (omega arith))

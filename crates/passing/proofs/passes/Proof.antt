@@ -4,6 +4,7 @@ use Prim.Native.Nat.{_-_}
 use native.Mathlib.Omega.{arith}
 use borrow.Author.Needs.{needs}
 use borrow.Author.Tests.{not-true, not-false}
+use Rattle.layout.specs.Layout.{lastLink}
 use Rattle.tree.specs.Tally.{tally, marked}
 use Rattle.passing.proofs.Ending.{Checking, wrong-length, sizes-first, answers-no, no-child, first-place, walk-over, walk-back, sizes-after, one-more}
 use Rattle.passing.proofs.Downing.{tops-of}
@@ -22,7 +23,7 @@ abbrev Inv-loop : tie.InvT-loop
 Inv-loop m left₀ first way₀ wants₀ stack₀ at₀ left way wants stack at = Checking m left way wants stack (at .x) (at .p) (at .low) (at .depth) (at .top)
 
 abbrev μ-loop : tie.MeasureT-loop
-μ-loop m left₀ first way₀ wants₀ stack₀ at₀ left way wants stack at = tally (marked left) 4608
+μ-loop m left₀ first way₀ wants₀ stack₀ at₀ left way wants stack at = tally (marked left) lastLink
 
 returns : tie.Need-returns Inv-loop μ-loop
 returns c = wrong-length (c .before .before .args .m .now) (c .if1 .taken)

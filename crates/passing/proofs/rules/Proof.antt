@@ -3,6 +3,7 @@ use borrow.Author.Needs.{needs}
 use Prim.Native.Nat.{_-_}
 use native.Mathlib.Omega.{arith}
 use borrow.Author.Tests.{not-true, not-false}
+use Rattle.layout.specs.Layout.{lastLink}
 use Rattle.tree.specs.Tally.{tally, marked}
 use Rattle.passing.proofs.Along.{Ruling, rules-start, no-rule, other-rule, rule-asked, rule-word, rule-low, one-less, rules-on, rules-over}
 use Rattle.passing.proofs.rules.Statement.{statement}
@@ -18,7 +19,7 @@ abbrev Inv-loop : tie.InvT-loop
 Inv-loop m left₀ way wants stack p depth top x₀ low₀ left x low = Ruling m left₀ left way wants stack x p low depth top
 
 abbrev μ-loop : tie.MeasureT-loop
-μ-loop m left₀ way wants stack p depth top x₀ low₀ left x low = tally (marked left) 4608
+μ-loop m left₀ way wants stack p depth top x₀ low₀ left x low = tally (marked left) lastLink
 
 loop-holds : tie.Need-loop-holds Inv-loop μ-loop
 loop-holds c = let s = c .before .before .before .before .before in rules-start (s .args .m .now) (s .args .left .now) (s .args .way .now) (s .args .wants .now) (s .args .stack .now) (s .args .at .x) (s .args .at .p) (s .args .at .low) (s .args .at .depth) (s .args .at .top) (s .pre .0) (s .pre .1 .0) (s .pre .1 .1)

@@ -1,6 +1,7 @@
 -- The walk goes from mark to mark, and counts each.
 use Prim.Native.Nat.{_-_}
 use native.Mathlib.Omega.{arith}
+use Rattle.layout.specs.Layout.{ruleNumbers}
 use Rattle.questions.proofs.Writing.{Counted, begins-count, few, counts-on, less, all-counted}
 use Rattle.questions.proofs.count.Statement.{statement}
 use Rattle.questions.proofs.count.Tie as tie
@@ -9,7 +10,7 @@ abbrev Inv-loop : tie.InvT-loop
 Inv-loop marks n₀ k₀ n k = Counted marks n k
 
 abbrev μ-loop : tie.MeasureT-loop
-μ-loop marks n₀ k₀ n k = 4096 - k
+μ-loop marks n₀ k₀ n k = ruleNumbers - k
 
 pub count-spec : {M : Type 1} → statement M
 count-spec =

@@ -6,6 +6,7 @@ use mathlib.Core.List.{List}
 use Prim.Native.Nat.{ℕ, _+_, _^_, _≤_, _<_}
 use native.Mathlib.Omega.{arith}
 use lib.ListN.{length, getD}
+use Rattle.layout.specs.Layout.{linksAt, lastLink, bookWords}
 use Rattle.tree.specs.Words.{cellOf}
 use Rattle.tree.specs.Promises.{Further}
 use Rattle.book.specs.Memory.{view}
@@ -18,12 +19,12 @@ use Rattle.questions.proofs.leap.Tie as tie
 here : (ws : List ℕ) (cell link : ℕ) → Threaded ws link → Begins ws cell link link
 here ws cell link t = record { threaded = t; by = start }
 
-low : (c : tie.Else2) → (c .before .before .before .args .link ≤ 4608) × (length (c .before .before .before .args .m .now) ≡ 12618)
+low : (c : tie.Else2) → (c .before .before .before .args .link ≤ lastLink) × (length (c .before .before .before .args .m .now) ≡ bookWords)
 low c = let s = c .before .before .before in (in-tree (s .args .m .now) (s .args .link) (s .pre) (c .before .if1 .left), s .pre .passing .size)
 
-springs : (ws : List ℕ) (cell link r : ℕ) → Threaded ws link → ¬ (link ≡ 0) → ((i : ℕ) → getD ws i 0 < 2 ^ 64) → cell < 32768 → (r ≡ link) ⊎ Further (view ws .tree) (getD ws (72 + link) 0) cell r → Begins ws cell link r
+springs : (ws : List ℕ) (cell link r : ℕ) → Threaded ws link → ¬ (link ≡ 0) → ((i : ℕ) → getD ws i 0 < 2 ^ 64) → cell < 32768 → (r ≡ link) ⊎ Further (view ws .tree) (getD ws (linksAt + link) 0) cell r → Begins ws cell link r
 springs ws cell link r t n all l (inl e) = subst (Begins ws cell link) (sym e) (here ws cell link t)
-springs ws cell link r t n all l (inr f) = let g = leaps ws cell link link cell r t n all (cellOf (getD ws (72 + link) 0)) refl (up-to-it cell (cellOf (getD ws (72 + link) 0)) l) f start in record { threaded = g .threaded; by = g .by }
+springs ws cell link r t n all l (inr f) = let g = leaps ws cell link link cell r t n all (cellOf (getD ws (linksAt + link) 0)) refl (up-to-it cell (cellOf (getD ws (linksAt + link) 0)) l) f start in record { threaded = g .threaded; by = g .by }
 
 returns-5 : tie.Need-returns-5
 returns-5 c =

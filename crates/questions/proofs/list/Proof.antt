@@ -2,16 +2,17 @@
 use mathlib.Core.Path.{_≡_, refl}
 use Prim.Native.Nat.{_-_, _<_}
 use native.Mathlib.Omega.{arith}
+use Rattle.layout.specs.Layout.{ruleNumbers}
 use Rattle.bits.specs.Numbers.{restOf}
 use Rattle.questions.proofs.Writing.{Written, begins, place-in, few, less, writes, written, still-long}
 use Rattle.questions.proofs.list.Statement.{statement}
 use Rattle.questions.proofs.list.Tie as tie
 
 abbrev Inv-loop : tie.InvT-loop
-Inv-loop marks out₀ n₀ s₀ out n s = Written marks out₀ out n (s .at) × (s .at < 4096 → s .rest ≡ restOf marks (s .at))
+Inv-loop marks out₀ n₀ s₀ out n s = Written marks out₀ out n (s .at) × (s .at < ruleNumbers → s .rest ≡ restOf marks (s .at))
 
 abbrev μ-loop : tie.MeasureT-loop
-μ-loop marks out₀ n₀ s₀ out n s = 4096 - s .at
+μ-loop marks out₀ n₀ s₀ out n s = ruleNumbers - s .at
 
 first-requires : tie.Need-first-requires Inv-loop μ-loop
 first-requires c κs = (c .before .before .pre .0, omega arith)

@@ -4,6 +4,7 @@ use mathlib.Core.Path.{_≡_, refl, _∙_}
 use Prim.Native.Nat.{ℕ, _^_, _<_, _≤_}
 use native.Mathlib.Omega.{arith}
 use lib.ListN.{length, getD}
+use Rattle.layout.specs.Layout.{lastLink, bookWords}
 use Rattle.questions.specs.Promises.{sizeAt, siblings}
 use Rattle.questions.proofs.Threads.{in-tree}
 use Rattle.questions.proofs.Marking.{Marking, begins, marks-next, number-low, fewer, marks-all}
@@ -16,7 +17,7 @@ Inv-loop m marks₀ link x₀ marks x = (length marks ≡ length marks₀) × Ma
 abbrev μ-loop : tie.MeasureT-loop
 μ-loop m marks₀ link x₀ marks x = sizeAt m x
 
-low : (l : tie.In-loop Inv-loop μ-loop) → (l .before .loop .x ≤ 4608) × (length (l .before .before .before .before .args .m .now) ≡ 12618)
+low : (l : tie.In-loop Inv-loop μ-loop) → (l .before .loop .x ≤ lastLink) × (length (l .before .before .before .before .args .m .now) ≡ bookWords)
 low l = (in-tree (l .before .before .before .before .args .m .now) (l .before .loop .x) (l .before .loop .inv .1 .threaded) (l .loop-test .taken), l .before .loop .inv .1 .threaded .passing .size)
 
 -- what is known at a turn's end

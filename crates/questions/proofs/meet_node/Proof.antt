@@ -4,6 +4,7 @@ use mathlib.Core.Path.{_≡_, sym, subst}
 use Prim.Native.Nat.{ℕ, _^_, _≤_, _<_}
 use native.Mathlib.Omega.{arith}
 use lib.ListN.{length, getD}
+use Rattle.layout.specs.Layout.{lastLink, bookWords}
 use Rattle.questions.specs.declared.Point.{Point}
 use Rattle.questions.specs.Promises.{Skips, Left}
 use Rattle.questions.proofs.Threads.{in-tree}
@@ -28,7 +29,7 @@ module _ (k : tie.After-sibling) where
       let h = start .pre in
       seeking (s .fills-question) (s .fills-rule) (s .m .now) (s .question .now) (s .place) (s .link) (s .cell) (k .before .last-wanted .result) (k .sibling .result) words (h .0 .threaded) (h .1 .1 .1 .1) (h .1 .1 .0) (k .before .last-wanted .ensures) (k .sibling .ensures)
 
-  low : ¬ (k .sibling .result ≡ 0) → (k .sibling .result ≤ 4608) × (length (start .args .m .now) ≡ 12618)
+  low : ¬ (k .sibling .result ≡ 0) → (k .sibling .result ≤ lastLink) × (length (start .args .m .now) ≡ bookWords)
   low nz =
       let t = skipped (start .args .fills-question) (start .args .fills-rule) (start .args .m .now) (start .args .question .now) words from (start .pre .0) (omega arith) skips .ready .threaded in
       (in-tree (start .args .m .now) (k .sibling .result) t nz, t .passing .size)

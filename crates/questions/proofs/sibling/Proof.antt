@@ -6,6 +6,7 @@ use mathlib.Core.List.{List}
 use Prim.Native.Nat.{ℕ, _+_, _^_, _≤_, _<_}
 use native.Mathlib.Omega.{arith}
 use lib.ListN.{length, getD}
+use Rattle.layout.specs.Layout.{linksAt, lastLink, bookWords}
 use Rattle.tree.specs.Words.{cellOf, nextOf}
 use Rattle.tree.specs.Trie.{trie}
 use Rattle.tree.specs.Search.{size}
@@ -26,11 +27,11 @@ abbrev μ-loop : tie.MeasureT-loop
 loop-holds : tie.Need-loop-holds Inv-loop μ-loop
 loop-holds c = let b = c .leap .ensures in (b .threaded, b .by)
 
-low : (l : tie.In-loop Inv-loop μ-loop) → (l .before .loop .x ≤ 4608) × (length (l .before .before .before .before .args .m .now) ≡ 12618)
+low : (l : tie.In-loop Inv-loop μ-loop) → (l .before .loop .x ≤ lastLink) × (length (l .before .before .before .before .args .m .now) ≡ bookWords)
 low l = (in-tree (l .before .before .before .before .args .m .now) (l .before .loop .x) (l .before .loop .inv .0) (l .loop-test .taken), l .before .loop .inv .0 .passing .size)
 
 -- a symbol above the last
-stop : (ws : List ℕ) (cell last link x c : ℕ) → PassesBy ws cell link x → ¬ (x ≡ 0) → c ≡ cellOf (getD ws (72 + x) 0) → c < 32768 → last < c → Sought ws cell last link 0
+stop : (ws : List ℕ) (cell last link x c : ℕ) → PassesBy ws cell link x → ¬ (x ≡ 0) → c ≡ cellOf (getD ws (linksAt + x) 0) → c < 32768 → last < c → Sought ws cell last link 0
 stop ws cell last link x c by n e l d = beyond by n (subst (λ (k : ℕ). last < k) e d) (subst (λ (k : ℕ). k < 32768) e l) refl
 
 returns-3 : tie.Need-returns-3 Inv-loop μ-loop
@@ -56,8 +57,8 @@ leapt c =
     go (s .m .now) (s .cell) (s .link) (l .x) _ _ (l .inv .0) (k .before .before .loop-test .taken) (λ i. k .before .shared-slice-known2 .given i .fits) (k .cell-of .result) (k .cell-of .ensures) (e .before .if2 .left) (e .before .before .if1 .left)
     (subst (λ (x : ℕ). Reach (s .cell) x (o .most)) (sym (k .cell-of .ensures)) (o .reach)) (o .on) (l .inv .1)
   where
-    go : (ws : List ℕ) (cell link x most r : ℕ) → Threaded ws x → ¬ (x ≡ 0) → ((i : ℕ) → getD ws i 0 < 2 ^ 64) → (c : ℕ) → c ≡ cellOf (getD ws (72 + x) 0) → c < 32768 → ¬ (c ≡ cell) → Reach cell c most
-        → (r ≡ nextOf (getD ws (72 + x) 0)) ⊎ Further (view ws .tree) (getD ws (72 + x) 0) most r → PassesBy ws cell link x → Leapt ws cell link x r
+    go : (ws : List ℕ) (cell link x most r : ℕ) → Threaded ws x → ¬ (x ≡ 0) → ((i : ℕ) → getD ws i 0 < 2 ^ 64) → (c : ℕ) → c ≡ cellOf (getD ws (linksAt + x) 0) → c < 32768 → ¬ (c ≡ cell) → Reach cell c most
+        → (r ≡ nextOf (getD ws (linksAt + x) 0)) ⊎ Further (view ws .tree) (getD ws (linksAt + x) 0) most r → PassesBy ws cell link x → Leapt ws cell link x r
     go ws cell link x most r t n all c ec l d reach (inl e) by = steps ws cell link x r t n all c ec l d e by
     go ws cell link x most r t n all c ec l d reach (inr f) by = leaps ws cell link x most r t n all c ec reach f by
 

@@ -5,6 +5,7 @@ use mathlib.Core.List.{[]}
 use Prim.Native.Nat.{ℕ, _^_, _≤_, _<_}
 use native.Mathlib.Omega.{arith}
 use lib.ListN.{length, getD}
+use Rattle.layout.specs.Layout.{lastLink, bookWords}
 use Rattle.questions.specs.declared.Point.{Point}
 use Rattle.questions.specs.Promises.{siblings, Ready, Left}
 use Rattle.questions.proofs.Threads.{in-tree}
@@ -23,7 +24,7 @@ module _ (k : tie.After-slice-known) where
   words : (i : ℕ) → getD (start .args .m .now) i 0 < 2 ^ 64
   words i = k .before .before .shared-slice-known .given i .fits
 
-  node : (length (start .args .m .now) ≡ 12618) × (start .args .link ≤ 4608)
+  node : (length (start .args .m .now) ≡ bookWords) × (start .args .link ≤ lastLink)
   node = (start .pre .0 .threaded .passing .size, in-tree (start .args .m .now) (start .args .link) (start .pre .0 .threaded) (start .pre .1 .0))
 
 pass-node-requires : tie.Need-pass-node-requires

@@ -3,6 +3,7 @@ use mathlib.Core.Path.{_≡_, sym, _∙_}
 use Prim.Native.Nat.{_-_}
 use native.Mathlib.Omega.{arith}
 use lib.ListN.{length, length-take}
+use Rattle.layout.specs.Layout.{nodeMapWords}
 use Rattle.tree.proofs.Growing.{Full, full-none, full-skipped, full-on, Chain, chain-start, chain-low, chain-room, chain-on, chain-end}
 use borrow.Author.Needs.{needs}
 use Rattle.tree.proofs.grow.Statement.{statement}
@@ -22,7 +23,7 @@ loop-holds c =
 lowest-free-from-requires : tie.Need-lowest-free-from-requires Inv-loop μ-loop
 lowest-free-from-requires c κs =
     let l = c .before .before .before .before .before .loop in
-    let long = length-take 64 (l .m) in
+    let long = length-take nodeMapWords (l .m) in
     let size = l .inv .0 .growing .size in
     (omega arith, (omega (arith, l .inv .1 .within), full-skipped (l .m) (l .full) (l .inv .1)))
 

@@ -5,6 +5,7 @@ use native.Mathlib.Numerals.{add-one}
 use native.Mathlib.Omega.{arith}
 use lib.ListN.{length, set, take, length-set}
 use lib.Seq.{length-front}
+use Rattle.layout.specs.Layout.{mapWords, nodesAt}
 use Rattle.tree.specs.Effects.{Puts, Writes, linked}
 use Rattle.tree.specs.Words.{shape, place}
 use Rattle.tree.proofs.Stores.{link-fits, writes, flips}
@@ -28,8 +29,8 @@ part-mark-end c =
     let c₁ = c .before .before .before .before in
     let pack = c₁ .pack in
     let s = c₁ .before .before .before .before in
-    let e : length (c .before .before .put-link .last .0) ≡ length (set (s .args .m .now) (73 + s .args .n) (pack .result)) = search needs in
-    omega (arith, e, length-set (s .args .m .now) (73 + s .args .n) (pack .result), s .pre .size)
+    let e : length (c .before .before .put-link .last .0) ≡ length (set (s .args .m .now) (nodesAt + s .args .n) (pack .result)) = search needs in
+    omega (arith, e, length-set (s .args .m .now) (nodesAt + s .args .n) (pack .result), s .pre .size)
 
 same-length : tie.Need-same-length
 same-length c =
@@ -38,9 +39,9 @@ same-length c =
     let put-link = c₁ .put-link in
     let pack = c₁ .before .before .pack in
     let s = c₁ .before .before .before .before .before .before in
-    let e : length (put-link .last .0) ≡ length (set (s .args .m .now) (73 + s .args .n) (pack .result)) = search needs in
-    let f : length (mark .last .0) ≡ length (take 72 (put-link .last .0)) = search needs in
-    length-front (put-link .last .0) (mark .last .0) 72 f ∙ e ∙ length-set (s .args .m .now) (73 + s .args .n) (pack .result)
+    let e : length (put-link .last .0) ≡ length (set (s .args .m .now) (nodesAt + s .args .n) (pack .result)) = search needs in
+    let f : length (mark .last .0) ≡ length (take mapWords (put-link .last .0)) = search needs in
+    length-front (put-link .last .0) (mark .last .0) mapWords f ∙ e ∙ length-set (s .args .m .now) (nodesAt + s .args .n) (pack .result)
 
 returns : tie.Need-returns
 returns c =
@@ -51,14 +52,14 @@ returns c =
     let get-link = c₁ .before .before .before .get-link in
     let s = c₁ .before .before .before .before .before .before in
     let ws = s .args .m .now in
-    let ws₁ = set ws (73 + s .args .n) (pack .result) in
+    let ws₁ = set ws (nodesAt + s .args .n) (pack .result) in
     let e : length (put-link .last .0) ≡ length ws₁ = search needs in
-    let f : length (mark .last .0) ≡ length (take 72 (put-link .last .0)) = search needs in
+    let f : length (mark .last .0) ≡ length (take mapWords (put-link .last .0)) = search needs in
     let w : Writes (shape ws) (shape ws₁) (s .args .n) (s .args .c) (s .args .p) (get-link .result) = writes ws (s .pre .size) (s .args .n) (s .pre .node)
     (pack .result) (s .args .c) (s .args .p) (get-link .result) (pack .ensures) in
     let at : Puts (shape ws₁) (shape (put-link .last .0)) (place (s .args .p) (s .args .b)) (suc (s .args .n)) = rw add-one at (put-link .ensures) in
     linked (s .pre .free) (s .pre .valid) (rw (s .pre .under, get-link .ensures) w) at
-    (flips (put-link .last .0) (mark .last .0) (s .args .n) 1 (e ∙ length-set ws (73 + s .args .n) (pack .result) ∙ s .pre .size) (s .pre .node) f (mark .ensures))
+    (flips (put-link .last .0) (mark .last .0) (s .args .n) 1 (e ∙ length-set ws (nodesAt + s .args .n) (pack .result) ∙ s .pre .size) (s .pre .node) f (mark .ensures))
 
 pub link-spec : {M : Type 1} → statement M
 link-spec =

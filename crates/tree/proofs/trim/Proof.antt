@@ -4,6 +4,7 @@ use Prim.Native.Nat.{suc}
 use native.Mathlib.Numerals.{add-one}
 use native.Mathlib.Omega.{arith}
 use lib.ListN.{length}
+use Rattle.layout.specs.Layout.{lastLink}
 use Rattle.tree.specs.Tally.{tally}
 use Rattle.tree.specs.Words.{shape}
 use Rattle.tree.specs.Limits.{used-low}
@@ -17,7 +18,7 @@ abbrev Inv-loop : tie.InvT-loop
 Inv-loop m₀ last l₀ m l = Trimming m₀ m (suc last) l
 
 abbrev μ-loop : tie.MeasureT-loop
-μ-loop m₀ last l₀ m l = tally (shape m .used) 4608
+μ-loop m₀ last l₀ m l = tally (shape m .used) lastLink
 
 add-l : tie.Need-add-l Inv-loop μ-loop
 add-l c =

@@ -1,6 +1,7 @@
 -- The place that leads to the node is where its cell belongs; it then leads to the next sibling
 use mathlib.Core.Path.{_≡_}
 use lib.ListN.{length, take}
+use Rattle.layout.specs.Layout.{mapWords}
 use Rattle.tree.proofs.Trimming.{leaf-ready, leaf-low, leaf-unlinked}
 use Rattle.tree.proofs.Walking.{before-all}
 use borrow.Author.Needs.{needs}
@@ -36,7 +37,7 @@ returns c =
     let cell-of = c₂ .before .cell-of in
     let parent-of = c₂ .before .before .before .parent-of in
     let s = c₂ .before .before .before .before .before .before in
-    let e : length (clear .last .0) ≡ length (take 72 (put-link .last .0)) = search needs in
+    let e : length (clear .last .0) ≡ length (take mapWords (put-link .last .0)) = search needs in
     let d : length (put-link .last .0) ≡ length (s .args .m .now) = search needs in
     leaf-unlinked (s .args .m .now) (s .args .n) (parent-of .result) (s .pre) (parent-of .ensures) (find .result) (cell-of .result) (next-of .result) (cell-of .ensures)
     (next-of .ensures) (find .ensures)

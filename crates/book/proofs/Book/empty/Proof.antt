@@ -4,6 +4,7 @@ use Prim.Native.Nat.{ℕ, _-_, _≤_}
 use native.Mathlib.Omega.{arith}
 use borrow.Author.Needs.{needs}
 use lib.ListN.{length, length-set, length-replicate, replicate}
+use Rattle.layout.specs.Layout.{bookWords}
 use Rattle.book.specs.Filling.{Filled, filled-more, filled-all, zeros-are}
 use Rattle.book.proofs.Book.empty.Statement.{statement}
 use Rattle.book.proofs.Book.empty.Tie as tie
@@ -32,7 +33,7 @@ returns-2 : tie.Need-returns-2 Inv-loop μ-loop
 returns-2 c =
     let l = c .before .loop in
     record {
-      made = λ e. (refl, filled-all (l .m) (replicate 12618 0) (l .i) (λ k. 0) (l .inv .0 ∙ e ∙ sym (length-replicate {A = ℕ} 12618 0)) (omega arith) (λ k h. sym (zeros-are 12618 k)) (l .inv .2));
+      made = λ e. (refl, filled-all (l .m) (replicate bookWords 0) (l .i) (λ k. 0) (l .inv .0 ∙ e ∙ sym (length-replicate {A = ℕ} bookWords 0)) (omega arith) (λ k h. sym (zeros-are bookWords k)) (l .inv .2));
       refused = λ n. absurd (n (c .before .before .if1 .left));
     }
 

@@ -3,16 +3,17 @@ use mathlib.Core.Path.{_≡_}
 use Prim.Native.Nat.{_-_, _*_, _≤_}
 use native.Mathlib.Omega.{arith}
 use lib.ListN.{length, length-set, getD}
+use Rattle.layout.specs.Layout.{termWords}
 use Rattle.bits.specs.Packed.{fields}
 use Rattle.book.specs.Filling.{Filled, filled-four, filled-all, fields-long, padded, padded-long}
 use Rattle.book.proofs.record.store.Statement.{statement}
 use Rattle.book.proofs.record.store.Tie as tie
 
 abbrev Inv-loop : tie.InvT-loop
-Inv-loop words₀ term i₀ words i = (length words ≡ 8) × (i ≤ 8) × Filled (fields words) (4 * i) (λ k. getD term k 0)
+Inv-loop words₀ term i₀ words i = (length words ≡ termWords) × (i ≤ termWords) × Filled (fields words) (4 * i) (λ k. getD term k 0)
 
 abbrev μ-loop : tie.MeasureT-loop
-μ-loop words₀ term i₀ words i = 8 - i
+μ-loop words₀ term i₀ words i = termWords - i
 
 loop-again : tie.Need-loop-again Inv-loop μ-loop
 loop-again c =

@@ -2,6 +2,7 @@
 use mathlib.Core.Path.{_∙_}
 use Prim.Native.Nat.{_+_, _*_, _-_}
 use native.Mathlib.Omega.{arith}
+use Rattle.layout.specs.Layout.{recordWords, termsAt}
 use Rattle.passing.proofs.Ruling.{rule-high, rule-lost, rule-long, rule-is}
 use borrow.Author.Needs.{needs}
 use Rattle.passing.proofs.rule.is_rule.Statement.{statement}
@@ -73,7 +74,7 @@ returns-4 : tie.Need-returns-4
 returns-4 c =
     let s = c .before .before .before .before .before .before .before .before .before .before .before in
     let p = c .before .before .before .before .before .size-of in
-    rule-is (s .args .m .now) (s .args .way .now) (s .args .r) (s .args .depth) (s .pre .0 .2) (s .args .number) (s .pre .1) (c .before .before .before .before .before .before .before .before .if1 .left) (p .result) (p .ensures ∙ c .before .before .before .before .before .before .field .ensures) (c .before .before .before .before .if2 .left) (c .before .before .if3 .left) (8011 + 9 * s .args .r + 8 - (8011 + 9 * s .args .r)) (omega arith) (c .is-record .result) (c .is-record .ensures)
+    rule-is (s .args .m .now) (s .args .way .now) (s .args .r) (s .args .depth) (s .pre .0 .2) (s .args .number) (s .pre .1) (c .before .before .before .before .before .before .before .before .if1 .left) (p .result) (p .ensures ∙ c .before .before .before .before .before .before .field .ensures) (c .before .before .before .before .if2 .left) (c .before .before .if3 .left) (termsAt + recordWords * s .args .r + 8 - (termsAt + recordWords * s .args .r)) (omega arith) (c .is-record .result) (c .is-record .ensures)
 
 pub is-rule-spec : {M : Type 1} → statement M
 is-rule-spec =

@@ -1,11 +1,12 @@
 -- At most 33 levels, each at a link of the memory
 use Prim.Native.Nat.{_-_, _≤_}
 use borrow.Author.Needs.{needs}
+use Rattle.layout.specs.Layout.{lastLink}
 use Rattle.tree.proofs.signs.highest.Statement.{statement}
 use Rattle.tree.proofs.signs.highest.Tie as tie
 
 abbrev Inv-loop : tie.InvT-loop
-Inv-loop m last l₀ steps₀ l steps = l ≤ 4608
+Inv-loop m last l₀ steps₀ l steps = l ≤ lastLink
 
 abbrev μ-loop : tie.MeasureT-loop
 μ-loop m last l₀ steps₀ l steps = 33 - steps
