@@ -14,9 +14,9 @@
 --           │ records        │   for each place the length of a term, and the words with its cells
 --   12,618  └────────────────┘
 --
--- Only this file and src/lib.rt, with constants of the same names, have these numbers; all others cite the names. Each number is computed
--- from those above it, so a part that grows, or that moves away from the part before it, is an edit of one line here and one there.
--- The tree stands first, since its words are counted as the book's are.
+-- Of all crates only this one has these numbers, here for specs and proofs and in src/lib.rt, under the same names, for code; all others
+-- cite the names. Each number is computed from those above it, so a part that grows, or that moves away from the part before it, is an
+-- edit of one line here and of one there. The tree stands first: a link has the same place in the tree's words and in the book's.
 use Prim.Native.Nat.{ℕ, _+_, _-_, _*_}
 
 -- ---- limits

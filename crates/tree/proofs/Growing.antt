@@ -59,7 +59,7 @@ module _ (ws : List ℕ) (size : length ws ≡ treeWords) (n : ℕ) (f : First 0
 
 -- the words before k have no free node
 pub record Full (ws : List ℕ) (k : ℕ) : Type 0 where
-  pub within : k ≤ 64
+  pub within : k ≤ nodeMapWords
   pub used : (y : ℕ) → y < k * 64 → Used (shape ws) y
 
 pub full-none : (ws : List ℕ) → Full ws 0

@@ -1,7 +1,7 @@
 -- One word stored writes a node or puts a link; one bit stored marks a node or clears it
 use mathlib.Core.Path.{_≡_, refl, sym, ap, _∙_, subst}
 use mathlib.Core.List.{List, _++_}
-use Prim.Native.Nat.{ℕ, zero, suc, _+_, _*_, _≤_, _<_}
+use Prim.Native.Nat.{ℕ, zero, suc, _+_, _-_, _*_, _≤_, _<_}
 use native.Mathlib.Omega.{arith}
 use native.Mathlib.Decide.{ℕ-discrete}
 use mir.Syntax.{w64}
@@ -154,7 +154,11 @@ flips ws map n v size hn same e = record {
     front y = ap (λ (l : List ℕ). marked l y) (take-at map (drop mapWords ws) mapWords long)
 
     word-is : (l : ℕ) → word (map ++ drop mapWords ws) l ≡ word ws l
-    word-is l = ap (λ (k : ℕ). getD (map ++ drop mapWords ws) (k + l) 0) (sym long) ∙ getD-append-add map (drop mapWords ws) l 0 ∙ getD-drop mapWords ws l 0
+    word-is l =
+        let k : ℕ = linksAt - mapWords + l in
+        let e : linksAt + l ≡ length map + k = omega (arith, long) in
+        let f : mapWords + k ≡ linksAt + l = omega arith in
+        ap (λ (j : ℕ). getD (map ++ drop mapWords ws) j 0) e ∙ getD-append-add map (drop mapWords ws) k 0 ∙ getD-drop mapWords ws k 0 ∙ ap (λ (j : ℕ). getD ws j 0) f
 
     places : (z : Place) → to (shape (map ++ drop mapWords ws)) z ≡ to (shape ws) z
     places (child l) = ap firstOf (word-is l)

@@ -66,11 +66,11 @@ module _ (ws : List ℕ) (size : length ws ≡ treeWords) where
 
   -- the count of the set bits is the number of used nodes, of rules that hang, and of both
   pub nodes-held : sum (bits (nodeMap ws)) ≡ tally (shape ws .used) nodesLimit
-  nodes-held = marks-held (nodeMap ws) 64 (omega (arith, length-take nodeMapWords ws)) ∙ tally-same (shape ws .used) (marked (nodeMap ws)) nodesLimit (λ n h. node-bit ws n h)
+  nodes-held = marks-held (nodeMap ws) nodeMapWords (omega (arith, length-take nodeMapWords ws)) ∙ tally-same (shape ws .used) (marked (nodeMap ws)) nodesLimit (λ n h. node-bit ws n h)
 
   pub rules-held : sum (bits (ruleMap ws)) ≡ tally (λ r. shape ws .used (nodesLimit + r)) rulesLimit
   rules-held =
-      marks-held (ruleMap ws) 8 (omega (arith, length-take ruleMapWords (drop ruleMapAt ws), length-drop ruleMapAt ws))
+      marks-held (ruleMap ws) ruleMapWords (omega (arith, length-take ruleMapWords (drop ruleMapAt ws), length-drop ruleMapAt ws))
       ∙ tally-same (λ r. shape ws .used (nodesLimit + r)) (marked (ruleMap ws)) rulesLimit (λ r h. rule-bit ws r h)
 
   pub bounded : ((l : ℕ) → word ws l < 2 ^ 64) → (ends : List End) → Passes (shape ws) ends → Short (forms ends) → Bounded (shape ws)
@@ -87,8 +87,8 @@ empty-passes m free none = record
     go (after k) v e = absurd (true≢false v (free k))
 
 -- no bit of the maps is set, and the root has no child
-pub empty-words : (ws : List ℕ) → ((k : ℕ) → k ≤ mapWords → getD ws k 0 ≡ 0) → ((n : ℕ) → shape ws .used n ≡ false) × Passes (shape ws) []
-empty-words ws h = (free, empty-passes (shape ws) free (let e = h mapWords (omega arith) in root e))
+pub empty-words : (ws : List ℕ) → ((k : ℕ) → k ≤ linksAt → getD ws k 0 ≡ 0) → ((n : ℕ) → shape ws .used n ≡ false) × Passes (shape ws) []
+empty-words ws h = (free, empty-passes (shape ws) free (let e = h linksAt (omega arith) in root e))
   where
     root : getD ws linksAt 0 ≡ 0 → shape ws .first 0 ≡ 0
     root e = ap (λ (w : ℕ). w / 65536 % 65536) e
