@@ -4,13 +4,13 @@ use mathlib.Core.List.{List, [], _++_}
 use mathlib.Core.Bool.{Bool, true, false}
 use Prim.Native.Nat.{ℕ, _+_, _-_, _≤_, _<_}
 use native.Mathlib.Omega.{arith}
-use native.Mathlib.Decide.{ℕ-discrete}
-use lib.Dec.{eqb, leb, ltb}
+use lib.Dec.{leb, ltb}
 use lib.ListN.{length, take, drop, replicate}
 use lib.Seq.{take-append-seam}
 use Rattle.bits.specs.Numbers.{has}
 use Rattle.term.specs.Counting.{true≢false}
-use Rattle.term.specs.Machine.{fillsQuestion, fillsRule}
+use Rattle.term.specs.Questions.{Mode}
+use Rattle.term.specs.Machine.{fillsQuestion}
 use Rattle.book.specs.declared.Added.{Added}
 use Rattle.book.specs.declared.Added.the-variants.{Taken, HeldAlready, BookFull, NoNodes}
 use Rattle.book.specs.declared.Removed.{Removed}
@@ -25,9 +25,10 @@ use Rattle.questions.specs.Promises.{Asked, Lists}
 use Rattle.questions.specs.Listing.{numbers-answers}
 use Rattle.commands.specs.Records.{Record, bare, good}
 use Rattle.commands.specs.declared.reader.Command.{Command}
-use Rattle.commands.specs.declared.reader.Command.the-variants.{Add, Remove, Ask, Show, Room, Stops}
-use Rattle.commands.specs.Commands.{modeOf}
-use Rattle.batch.specs.Effects.{Change, Effect, tells, changeOf, adds, changeAt, removes, asks, shown, shows, counts, does}
+use Rattle.commands.specs.declared.kinds.Act.{Act}
+use Rattle.commands.specs.Kinds.{modeOf, fills-question, fills-rule}
+use Rattle.batch.specs.Laws.{does-stop, does-act}
+use Rattle.batch.specs.Effects.{Change, Effect, tells, changeOf, adds, changeAt, removes, shown, acts, does}
 use Rattle.commands.specs.Writing.{Writes}
 use Rattle.batch.specs.Promises.{Along, none, then, Becomes, Does}
 
@@ -106,40 +107,21 @@ module _ (ws ws′ : List ℕ) (k : ℕ) (a : Removed) (x : Removes ws ws′ k a
 
 -- ---- asking
 
--- what holds of the four kinds holds of each from 2 to 5
-four : (P : ℕ → Type 0) (k : ℕ) → 2 ≤ k → k ≤ 5 → P 2 → P 3 → P 4 → P 5 → P k
-four P k a b p2 p3 p4 p5 = go2 (ℕ-discrete k 2)
-  where
-    go4 : ¬ (k ≡ 2) → ¬ (k ≡ 3) → Dec (k ≡ 4) → P k
-    go4 x y (yes e) = subst P (sym e) p4
-    go4 x y (no z) = subst P (sym (let h : k ≡ 5 = omega arith in h)) p5
+module _ (ws q marks : List ℕ) (fillsQ fillsR : Bool) (asked : Asked fillsQ fillsR ws q marks) where
+  abbrev mode : Mode
+  mode = modeOf fillsQ fillsR
 
-    go3 : ¬ (k ≡ 2) → Dec (k ≡ 3) → P k
-    go3 x (yes e) = subst P (sym e) p3
-    go3 x (no y) = go4 x y (ℕ-discrete k 4)
+  pub these : numbers (has marks) 4096 ≡ answers mode q (rulesIn ws)
+  these = numbers-answers mode ws q marks (subst (λ (x : Bool). Asked (fillsQuestion mode) x ws q marks) (sym (fills-rule fillsQ fillsR)) (subst (λ (x : Bool). Asked x fillsR ws q marks) (sym (fills-question fillsQ fillsR)) asked))
 
-    go2 : Dec (k ≡ 2) → P k
-    go2 (yes e) = subst P (sym e) p2
-    go2 (no x) = go3 x (ℕ-discrete k 3)
-
-pub question-filled : (k : ℕ) → 2 ≤ k → k ≤ 5 → ¬ (k ≡ 3) → eqb k 5 ≡ fillsQuestion (modeOf k)
-question-filled k a b = four (λ j. ¬ (j ≡ 3) → eqb j 5 ≡ fillsQuestion (modeOf j)) k a b (λ n. refl) (λ n. absurd (n refl)) (λ n. refl) (λ n. refl)
-
-pub rule-filled : (k : ℕ) → 2 ≤ k → k ≤ 5 → ¬ (k ≡ 4) → eqb k 5 ≡ fillsRule (modeOf k)
-rule-filled k a b = four (λ j. ¬ (j ≡ 4) → eqb j 5 ≡ fillsRule (modeOf j)) k a b (λ n. refl) (λ n. refl) (λ n. absurd (n refl)) (λ n. refl)
-
-module _ (ws q marks : List ℕ) (kind : ℕ) (a b : Bool) (ea : a ≡ fillsQuestion (modeOf kind)) (eb : b ≡ fillsRule (modeOf kind)) (asked : Asked a b ws q marks) where
-  pub these : numbers (has marks) 4096 ≡ answers (modeOf kind) q (rulesIn ws)
-  these = numbers-answers (modeOf kind) ws q marks (subst (λ (x : Bool). Asked (fillsQuestion (modeOf kind)) x ws q marks) eb (subst (λ (x : Bool). Asked x b ws q marks) ea asked))
-
-  pub as-many : (out out′ : List ℕ) (n : ℕ) → Lists marks out out′ n → n ≡ length (answers (modeOf kind) q (rulesIn ws))
+  pub as-many : (out out′ : List ℕ) (n : ℕ) → Lists marks out out′ n → n ≡ length (answers mode q (rulesIn ws))
   as-many out out′ n l = l .count ∙ ap length these
 
-  pub listed-are : (out out′ : List ℕ) (n : ℕ) → Lists marks out out′ n → out′ ≡ answers (modeOf kind) q (rulesIn ws) ++ drop (length (answers (modeOf kind) q (rulesIn ws))) out
+  pub listed-are : (out out′ : List ℕ) (n : ℕ) → Lists marks out out′ n → out′ ≡ answers mode q (rulesIn ws) ++ drop (length (answers mode q (rulesIn ws))) out
   listed-are out out′ n l = l .is ∙ ap₂ (λ (z : List ℕ) (k : ℕ). z ++ drop k out) these (as-many out out′ n l)
 
   pub never-many : Passing ws → length (numbers (has marks) 4096) ≤ 512
-  never-many p = omega (arith, ap length these, never-more (modeOf kind) q (rulesIn ws), limited ws p .few)
+  never-many p = omega (arith, ap length these, never-more mode q (rulesIn ws), limited ws p .few)
 
 -- ---- showing
 
@@ -165,36 +147,16 @@ module _ (ws : List ℕ) (k : ℕ) (held : Bool) (size : ℕ) (cells : List ℕ)
           let same : take size cells ≡ t = ap₂ (λ (n : ℕ) (l : List ℕ). take n l) s (x .shown ∙ ap shownCells q) ∙ take-append-seam t (replicate (32 - length t) 0) in
           record { record-is = ap shown q ∙ ap good (sym same); sized = ap length same ∙ sym s }
 
--- ---- a command is done by what its kind says
+-- ---- a command is done by what its act says
 
 module _ (ws ws′ out out′ behind : List ℕ) (n : ℕ) (command : Command) where
   abbrev Done : Effect → Type 0
   Done e = Does e ws ws′ out out′ n
 
-  pub done : (c : Command) (e : Effect) → command ≡ c → does (rulesIn ws) behind c ≡ e → Done e → Done (does (rulesIn ws) behind command)
-  done c e q f d = subst Done (sym (ap (does (rulesIn ws) behind) q ∙ f)) d
+  pub done : (act : Act) (term : List ℕ) → command .stop ≡ 0 → command .act ≡ act → term ≡ take (command .size) behind → Done (acts act (rulesIn ws) (command .number) term) → Done (does (rulesIn ws) behind command)
+  done act term z q e d =
+      subst Done (sym (does-act (rulesIn ws) behind command z))
+      (subst (λ (x : List ℕ). Done (acts (command .act) (rulesIn ws) (command .number) x)) e (subst (λ (a : Act). Done (acts a (rulesIn ws) (command .number) term)) (sym q) d))
 
-module _ (rules : Rules) (behind : List ℕ) where
-  pub does-add : (k size : ℕ) (t : List ℕ) → t ≡ take size behind → does rules behind (Add k size) ≡ adds rules k t
-  unfolding does
-  does-add k size t e = ap (adds rules k) (sym e)
-
-  pub does-remove : (k : ℕ) → does rules behind (Remove k) ≡ removes rules k
-  unfolding does
-  does-remove k = refl
-
-  pub does-ask : (kind size : ℕ) (q : List ℕ) → q ≡ take size behind → does rules behind (Ask kind size) ≡ asks rules kind q
-  unfolding does
-  does-ask kind size q e = ap (asks rules kind) (sym e)
-
-  pub does-show : (k : ℕ) → does rules behind (Show k) ≡ shows rules k
-  unfolding does
-  does-show k = refl
-
-  pub does-room : does rules behind Room ≡ counts rules
-  unfolding does
-  does-room = refl
-
-  pub does-stop : (refusal : ℕ) → does rules behind (Stops refusal) ≡ tells (bare refusal) rules
-  unfolding does
-  does-stop refusal = refl
+  pub stopped : ¬ (command .stop ≡ 0) → Done (tells (bare (command .stop)) (rulesIn ws)) → Done (does (rulesIn ws) behind command)
+  stopped z d = subst Done (sym (does-stop (rulesIn ws) behind command z)) d

@@ -10,7 +10,7 @@ use Rattle.book.specs.Rules.{Rules}
 use Rattle.book.specs.Memory.{Passing, rulesIn}
 use Rattle.commands.specs.Records.{cellsOf, written}
 use Rattle.commands.specs.declared.reader.Command.{Command}
-use Rattle.commands.specs.Commands.{commandIn, termSize, stopOf}
+use Rattle.commands.specs.Commands.{commandIn}
 use Rattle.batch.specs.Effects.{Change, Effect, does}
 use Rattle.batch.specs.Run.{Outcome, goesOn, run}
 use Rattle.batch.specs.Promises.{Becomes, Does, Came, Ran}
@@ -65,7 +65,7 @@ module _ (ws ws₁ behind out out₁ : List ℕ) (c n : ℕ) where
       wide : length (cellsOf (e .answer)) ≡ n
       wide = sym (done .writes .fits (fits z) .0)
 
-      pub stops : (stop : ℕ) → stop ≡ stopOf command → ¬ (stop ≡ 0) → Ran ws ws₁ (c ∷ behind) out out₁ stop 0 n
+      pub stops : (stop : ℕ) → stop ≡ command .stop → ¬ (stop ≡ 0) → Ran ws ws₁ (c ∷ behind) out out₁ stop 0 n
       unfolding written
       stops stop s d =
           subst (λ (o : Outcome). Came o ws ws₁ out out₁ stop 0 n) (sym (run-stops (rulesIn ws) c behind (length out) (fits z) (λ q. d (s ∙ q))))
@@ -87,21 +87,21 @@ module _ (ws ws₁ behind out out₁ : List ℕ) (c n : ℕ) where
       room-left = ap (λ (k : ℕ). length out - k) wide ∙ sym (length-drop n out) ∙ ap length (sym back)
 
       came : (o : Outcome) (ws′ part : List ℕ) (stop used k : ℕ) → Came o ws₁ ws′ (drop n out₁) part stop used k
-          → Came (goesOn (suc (termSize command)) e o) ws ws′ out (take n out₁ ++ part) stop (suc (termSize command) + used) (n + k)
+          → Came (goesOn (suc (command .size)) e o) ws ws′ out (take n out₁ ++ part) stop (suc (command .size) + used) (n + k)
       unfolding written
       came o ws′ part stop used k x = record {
         stop-is = x .stop-is;
-        used-is = ap (λ (j : ℕ). suc (termSize command) + j) (x .used-is);
+        used-is = ap (λ (j : ℕ). suc (command .size) + j) (x .used-is);
         written-is = ap₂ (λ (a b : ℕ). a + b) (sym wide) (x .written-is) ∙ sym (length-append (cellsOf (e .answer)) (written (o .records)));
         output = ap₂ (λ (a b : List ℕ). a ++ b) front (x .output ∙ ap (λ (l : List ℕ). written (o .records) ++ l) (ap (drop k) back ∙ drop-drop k n out)) ∙ sym (append-assoc (cellsOf (e .answer)) (written (o .records)) (drop (n + k) out));
         book = becomes ws ws₁ ws′ (e .rules) (o .rules) (e .changes) (o .changes) (done .fits (fits z)) (x .book);
       }
 
-      pub goes-on : stopOf command ≡ 0 → (ws′ part : List ℕ) (stop used k : ℕ) → Ran ws₁ ws′ (drop (termSize command) behind) (drop n out₁) part stop used k
-          → Ran ws ws′ (c ∷ behind) out (take n out₁ ++ part) stop (suc (termSize command) + used) (n + k)
-      goes-on s ws′ part stop used k x = subst (λ (o : Outcome). Came o ws ws′ out (take n out₁ ++ part) stop (suc (termSize command) + used) (n + k)) (sym is) (came _ ws′ part stop used k x)
+      pub goes-on : command .stop ≡ 0 → (ws′ part : List ℕ) (stop used k : ℕ) → Ran ws₁ ws′ (drop (command .size) behind) (drop n out₁) part stop used k
+          → Ran ws ws′ (c ∷ behind) out (take n out₁ ++ part) stop (suc (command .size) + used) (n + k)
+      goes-on s ws′ part stop used k x = subst (λ (o : Outcome). Came o ws ws′ out (take n out₁ ++ part) stop (suc (command .size) + used) (n + k)) (sym is) (came _ ws′ part stop used k x)
         where
-          is : run (rulesIn ws) (c ∷ behind) (length out) ≡ goesOn (suc (termSize command)) e (run (rulesIn ws₁) (drop (termSize command) behind) (length (drop n out₁)))
+          is : run (rulesIn ws) (c ∷ behind) (length out) ≡ goesOn (suc (command .size)) e (run (rulesIn ws₁) (drop (command .size) behind) (length (drop n out₁)))
           is =
               run-goes-on (rulesIn ws) c behind (length out) (fits z) s
-              ∙ ap (goesOn (suc (termSize command)) e) (ap₂ (λ (r : Rules) (j : ℕ). run r (drop (termSize command) behind) j) (sym (done .fits (fits z) .rules-are)) room-left)
+              ∙ ap (goesOn (suc (command .size)) e) (ap₂ (λ (r : Rules) (j : ℕ). run r (drop (command .size) behind) j) (sym (done .fits (fits z) .rules-are)) room-left)

@@ -1,15 +1,19 @@
 -- What a command does: 01, 'Commands and records' and 'Refusal numbers'.
 use mathlib.Core.List.{List, [], _∷_}
+use mathlib.Core.Bool.{Bool, true, false}
 use Prim.Native.Nat.{ℕ}
+use lib.Dec.{eqb}
 use lib.ListN.{take}
+use Rattle.term.specs.Questions.{Mode}
 use Rattle.book.specs.Rules.{Held, nothing, rule, Rules, withRule, withoutRule, ruleCount, nodesOf, addRefusal, judged, after, removal, removeRefusal}
 use Rattle.book.specs.declared.Added.{Added}
 use Rattle.book.specs.declared.Added.the-variants.{Taken, HeldAlready, BookFull, NoNodes}
 use Rattle.questions.specs.Asking.{answers}
 use Rattle.commands.specs.Records.{Record, bare, good}
 use Rattle.commands.specs.declared.reader.Command.{Command}
-use Rattle.commands.specs.declared.reader.Command.the-variants.{Add, Remove, Ask, Show, Room, Stops}
-use Rattle.commands.specs.Commands.{modeOf}
+use Rattle.commands.specs.declared.kinds.Act.{Act}
+use Rattle.commands.specs.declared.kinds.Act.the-variants.{Unknown, Add, Remove, Ask, Show, Room}
+use Rattle.commands.specs.Kinds.{modeOf}
 
 -- How the set of rules changes: by one rule more, or one less, with its number and its term.
 pub data Change : Type 0 where
@@ -60,8 +64,8 @@ abbrev pub removes : Rules → ℕ → Effect
 removes rules k = record { answer = bare (removeRefusal (removal (rules k))); rules = withoutRule rules k; changes = changeAt k (rules k) }
 
 -- The rule numbers that answer, ascending.
-abbrev pub asks : Rules → ℕ → List ℕ → Effect
-asks rules kind question = tells (good (answers (modeOf kind) question rules)) rules
+abbrev pub asks : Rules → Mode → List ℕ → Effect
+asks rules mode question = tells (good (answers mode question rules)) rules
 
 -- The rule's cells, or 7.
 abbrev pub shown : Held → Record
@@ -75,11 +79,19 @@ shows rules k = tells (shown (rules k)) rules
 abbrev pub counts : Rules → Effect
 counts rules = tells (good (ruleCount rules ∷ nodesOf rules ∷ [])) rules
 
--- What a command does to a set of rules, with the cells behind its command cell.
+-- What each act does to a set of rules, under a number and with a term. Of an unknown kind no command is done.
+abbrev pub acts : Act → Rules → ℕ → List ℕ → Effect
+acts Unknown rules k term = tells (bare 2) rules
+acts Add rules k term = adds rules k term
+acts Remove rules k term = removes rules k
+acts (Ask fillsQ fillsR) rules k term = asks rules (modeOf fillsQ fillsR) term
+acts Show rules k term = shows rules k
+acts Room rules k term = counts rules
+
+abbrev pub pickEffect : Bool → Effect → Effect → Effect
+pickEffect true a b = a
+pickEffect false a b = b
+
+-- What a command does, with the cells behind its command cell: one that stops the batch only tells with which number.
 unfoldable pub does : Rules → List ℕ → Command → Effect
-does rules behind (Add number size) = adds rules number (take size behind)
-does rules behind (Remove number) = removes rules number
-does rules behind (Ask kind size) = asks rules kind (take size behind)
-does rules behind (Show number) = shows rules number
-does rules behind Room = counts rules
-does rules behind (Stops refusal) = tells (bare refusal) rules
+does rules behind c = pickEffect (eqb (c .stop) 0) (acts (c .act) rules (c .number) (take (c .size) behind)) (tells (bare (c .stop)) rules)

@@ -1,18 +1,42 @@
 -- Laws of what a batch is.
 use mathlib.Core.Path.{_≡_, refl, ap, _∙_}
 use mathlib.Core.List.{List, [], _∷_, _++_}
-use mathlib.Core.Bool.{Bool}
+use mathlib.Core.Bool.{Bool, true, false}
 use Prim.Native.Nat.{ℕ, zero, suc, _-_, _≤_, _<_}
 use native.Mathlib.Omega.{arith}
 use borrow.Author.Tests.{lt-ltb, le-ltb, eq-eqb, ne-eqb}
 use lib.Dec.{eqb}
-use lib.ListN.{length, drop}
+use lib.ListN.{length, take, drop}
 use Rattle.book.specs.Rules.{Rules}
 use Rattle.commands.specs.declared.reader.Command.{Command}
-use Rattle.commands.specs.Commands.{commandIn, termSize, stopOf}
-use Rattle.batch.specs.Effects.{Change, Effect, does}
+use Rattle.commands.specs.Commands.{commandIn}
+use Rattle.commands.specs.Records.{bare}
+use Rattle.batch.specs.Effects.{Change, Effect, tells, acts, pickEffect, does}
 use Rattle.batch.specs.Run.{Outcome, pickOutcome, ends, endsWith, goesOn, oneOf, runFrom, run}
 use Rattle.batch.specs.Promises.{Along, none, then}
+
+-- ---- a command that stops the batch, and one that goes on
+
+module _ (rules : Rules) (behind : List ℕ) (c : Command) where
+  abbrev acted : Effect
+  acted = acts (c .act) rules (c .number) (take (c .size) behind)
+
+  pub does-stop : ¬ (c .stop ≡ 0) → does rules behind c ≡ tells (bare (c .stop)) rules
+  unfolding does
+  does-stop n = ap (λ (b : Bool). pickEffect b acted (tells (bare (c .stop)) rules)) (ne-eqb (c .stop) 0 n)
+
+  pub does-act : c .stop ≡ 0 → does rules behind c ≡ acted
+  unfolding does
+  does-act e = ap (λ (b : Bool). pickEffect b acted (tells (bare (c .stop)) rules)) (eq-eqb (c .stop) 0 e)
+
+  -- what holds of each act and of each refusal holds of what a command does
+  pub any-effect : (P : Effect → Type 0) → P acted → P (tells (bare (c .stop)) rules) → P (does rules behind c)
+  unfolding does
+  any-effect P a t = go (eqb (c .stop) 0)
+    where
+      go : (b : Bool) → P (pickEffect b acted (tells (bare (c .stop)) rules))
+      go true = a
+      go false = t
 
 -- ---- a batch, command by command
 
@@ -37,28 +61,28 @@ module _ (rules : Rules) (c : ℕ) (behind : List ℕ) (room : ℕ) where
   effect = does rules behind command
 
   abbrev pub rest : Outcome
-  rest = run (effect .rules) (drop (termSize command) behind) (room - suc (length (effect .answer .cells)))
+  rest = run (effect .rules) (drop (command .size) behind) (room - suc (length (effect .answer .cells)))
 
   abbrev later : Outcome
-  later = runFrom (termSize command) (effect .rules) behind (room - suc (length (effect .answer .cells)))
+  later = runFrom (command .size) (effect .rules) behind (room - suc (length (effect .answer .cells)))
 
   one : run rules (c ∷ behind) room ≡ oneOf rules room command effect later
   unfolding runFrom
   one = refl
 
   pub run-10 : room ≤ length (effect .answer .cells) → run rules (c ∷ behind) room ≡ ends 10 rules
-  run-10 h = one ∙ ap (λ (b : Bool). pickOutcome b (pickOutcome (eqb (stopOf command) 0) (goesOn (suc (termSize command)) effect later) (endsWith (stopOf command) effect)) (ends 10 rules)) (le-ltb (length (effect .answer .cells)) room h)
+  run-10 h = one ∙ ap (λ (b : Bool). pickOutcome b (pickOutcome (eqb (command .stop) 0) (goesOn (suc (command .size)) effect later) (endsWith (command .stop) effect)) (ends 10 rules)) (le-ltb (length (effect .answer .cells)) room h)
 
-  fits : length (effect .answer .cells) < room → run rules (c ∷ behind) room ≡ pickOutcome (eqb (stopOf command) 0) (goesOn (suc (termSize command)) effect later) (endsWith (stopOf command) effect)
-  fits h = one ∙ ap (λ (b : Bool). pickOutcome b (pickOutcome (eqb (stopOf command) 0) (goesOn (suc (termSize command)) effect later) (endsWith (stopOf command) effect)) (ends 10 rules)) (lt-ltb (length (effect .answer .cells)) room h)
+  fits : length (effect .answer .cells) < room → run rules (c ∷ behind) room ≡ pickOutcome (eqb (command .stop) 0) (goesOn (suc (command .size)) effect later) (endsWith (command .stop) effect)
+  fits h = one ∙ ap (λ (b : Bool). pickOutcome b (pickOutcome (eqb (command .stop) 0) (goesOn (suc (command .size)) effect later) (endsWith (command .stop) effect)) (ends 10 rules)) (lt-ltb (length (effect .answer .cells)) room h)
 
-  pub run-stops : length (effect .answer .cells) < room → ¬ (stopOf command ≡ 0) → run rules (c ∷ behind) room ≡ endsWith (stopOf command) effect
-  run-stops h d = fits h ∙ ap (λ (b : Bool). pickOutcome b (goesOn (suc (termSize command)) effect later) (endsWith (stopOf command) effect)) (ne-eqb (stopOf command) 0 d)
+  pub run-stops : length (effect .answer .cells) < room → ¬ (command .stop ≡ 0) → run rules (c ∷ behind) room ≡ endsWith (command .stop) effect
+  run-stops h d = fits h ∙ ap (λ (b : Bool). pickOutcome b (goesOn (suc (command .size)) effect later) (endsWith (command .stop) effect)) (ne-eqb (command .stop) 0 d)
 
-  pub run-goes-on : length (effect .answer .cells) < room → stopOf command ≡ 0 → run rules (c ∷ behind) room ≡ goesOn (suc (termSize command)) effect rest
+  pub run-goes-on : length (effect .answer .cells) < room → command .stop ≡ 0 → run rules (c ∷ behind) room ≡ goesOn (suc (command .size)) effect rest
   run-goes-on h e =
-      fits h ∙ ap (λ (b : Bool). pickOutcome b (goesOn (suc (termSize command)) effect later) (endsWith (stopOf command) effect)) (eq-eqb (stopOf command) 0 e)
-      ∙ ap (goesOn (suc (termSize command)) effect) (skipped (termSize command) (effect .rules) behind (room - suc (length (effect .answer .cells))))
+      fits h ∙ ap (λ (b : Bool). pickOutcome b (goesOn (suc (command .size)) effect later) (endsWith (command .stop) effect)) (eq-eqb (command .stop) 0 e)
+      ∙ ap (goesOn (suc (command .size)) effect) (skipped (command .size) (effect .rules) behind (room - suc (length (effect .answer .cells))))
 
 -- ---- memories along changes
 

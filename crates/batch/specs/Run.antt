@@ -7,7 +7,7 @@ use lib.ListN.{length}
 use Rattle.book.specs.Rules.{Rules}
 use Rattle.commands.specs.Records.{Record}
 use Rattle.commands.specs.declared.reader.Command.{Command}
-use Rattle.commands.specs.Commands.{commandIn, termSize, stopOf}
+use Rattle.commands.specs.Commands.{commandIn}
 use Rattle.batch.specs.Effects.{Change, Effect, does}
 
 -- What comes of a batch on a book that passes: the stop number, cells used, the records written, the rules afterwards, and the changes of the rules in turn.
@@ -38,7 +38,7 @@ goesOn size e rest = record { stop = rest .stop; used = size + rest .used; recor
 abbrev pub oneOf : Rules → ℕ → Command → Effect → Outcome → Outcome
 oneOf rules room command e rest =
     pickOutcome (ltb (length (e .answer .cells)) room)
-    (pickOutcome (eqb (stopOf command) 0) (goesOn (suc (termSize command)) e rest) (endsWith (stopOf command) e))
+    (pickOutcome (eqb (command .stop) 0) (goesOn (suc (command .size)) e rest) (endsWith (command .stop) e))
     (ends 10 rules)
 
 -- The commands in turn; so many cells, those of a term that was read, are passed over first.
@@ -47,7 +47,7 @@ runFrom skip rules [] room = ends 0 rules
 runFrom (suc skip) rules (c ∷ behind) room = runFrom skip rules behind room
 runFrom zero rules (c ∷ behind) room =
     oneOf rules room (commandIn (c ∷ behind)) (does rules behind (commandIn (c ∷ behind)))
-    (runFrom (termSize (commandIn (c ∷ behind))) (does rules behind (commandIn (c ∷ behind)) .rules) behind
+    (runFrom (commandIn (c ∷ behind) .size) (does rules behind (commandIn (c ∷ behind)) .rules) behind
     (room - suc (length (does rules behind (commandIn (c ∷ behind)) .answer .cells))))
 
 -- A batch on a set of rules, with its cells and the room for output.

@@ -2,48 +2,22 @@
 pub mod records;
 
 ghost use mathlib.Core.Path.{_≡_};
-ghost use Prim.Native.Nat.{_+_, _<_};
+ghost use Prim.Native.Nat.{_+_, _≤_, _<_};
 ghost use lib.ListN.{length, drop};
 ghost use Rattle.book.specs.Memory.{Passing, rulesIn};
-ghost use Rattle.commands.specs.Commands.{termSize, stopOf, Read};
+ghost use Rattle.commands.specs.Commands.{Read};
 ghost use Rattle.batch.specs.Effects.{does};
 ghost use Rattle.batch.specs.Promises.{Does, Ran, Runs};
+use commands::kinds::Act;
 use commands::reader;
 use commands::reader::Command;
+use commands::records::put_bare;
 
 // How a batch ends: the stop number, cells used, cells written.
 pub struct Ended {
     pub stop: u64,
     pub used: usize,
     pub written: usize,
-}
-
-// How many cells stand behind a command's first.
-fn term_size(command: Command) -> usize
-    ensures { λ r. ⌜ r ≡ termSize command ⌝ }
-{
-    match command {
-        Command::Add(_, size) => size,
-        Command::Remove(_) => 0,
-        Command::Ask(_, size) => size,
-        Command::Show(_) => 0,
-        Command::Room => 0,
-        Command::Stops(_) => 0,
-    }
-}
-
-// The number with which a command stops the batch, or 0.
-fn stop_of(command: Command) -> u64
-    ensures { λ r. ⌜ r ≡ stopOf command ⌝ }
-{
-    match command {
-        Command::Add(_, _) => 0,
-        Command::Remove(_) => 0,
-        Command::Ask(_, _) => 0,
-        Command::Show(_) => 0,
-        Command::Room => 0,
-        Command::Stops(refusal) => refusal,
-    }
 }
 
 // Does a command, with the cells from `from` on behind it, and writes its record; the cells written, 0 where there is no room.
@@ -57,23 +31,34 @@ fn do_command(
     out: &mut [u16],
 ) -> usize
     requires { ⌜ Passing (now book) ⌝ }
+    requires { ⌜ from ≤ length (now cells) ⌝ }
     requires { ⌜ Read (drop from (now cells)) command ⌝ }
     requires { ⌜ length (now marks) ≡ 65 ⌝ }
     ensures { λ n. ⌜ Does (does (rulesIn (now (book .entry))) (drop from (now (cells .entry))) command) (now (book .entry)) (now (book .exit)) (now (out .entry)) (now (out .exit)) n ⌝ }
 {
-    match command {
-        Command::Add(number, size) => {
-            let end = from + size;
-            records::add(book, number, &cells[from..end], out)
+    let stop = command.stop;
+    if stop != 0 {
+        return put_bare(stop, out);
+    }
+    let act = command.act;
+    let number = command.number;
+    let end = from + command.size;
+    match act {
+        Act::Unknown => put_bare(2, out),
+        Act::Add => records::add(book, number, &cells[from..end], out),
+        Act::Remove => records::remove(book, number, out),
+        Act::Ask(fills_question, fills_rule) => {
+            records::ask(
+                book,
+                fills_question,
+                fills_rule,
+                &cells[from..end],
+                marks,
+                out,
+            )
         }
-        Command::Remove(number) => records::remove(book, number, out),
-        Command::Ask(kind, size) => {
-            let end = from + size;
-            records::ask(book, kind, &cells[from..end], marks, out)
-        }
-        Command::Show(number) => records::show(book, number, out),
-        Command::Room => records::room(book, out),
-        Command::Stops(refusal) => commands::records::put_bare(refusal, out),
+        Act::Show => records::show(book, number, out),
+        Act::Room => records::room(book, out),
     }
 }
 
@@ -103,7 +88,7 @@ fn run_commands(book: &mut [u64], commands: &[u16], output: &mut [u16]) -> Ended
             };
         }
         written += n;
-        let stop = stop_of(command);
+        let stop = command.stop;
         if stop != 0 {
             return Ended {
                 stop,
@@ -111,7 +96,7 @@ fn run_commands(book: &mut [u64], commands: &[u16], output: &mut [u16]) -> Ended
                 written,
             };
         }
-        used += 1 + term_size(command);
+        used += 1 + command.size;
     }
     Ended {
         stop: 0,

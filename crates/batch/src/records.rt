@@ -6,12 +6,11 @@ ghost use lib.ListN.{length};
 ghost use lib.Dec.{ltb};
 ghost use Rattle.bits.specs.Numbers.{NumberSet, has};
 ghost use Rattle.questions.specs.Asking.{numbers};
-ghost use Rattle.term.specs.Machine.{fillsQuestion, fillsRule};
 ghost use Rattle.book.specs.Rules.{addRefusal, removeRefusal};
 ghost use Rattle.book.specs.Memory.{Passing, rulesIn};
 ghost use Rattle.book.specs.Promises.{IsTerm};
 ghost use Rattle.batch.specs.Effects.{adds, removes, asks, shows, counts};
-ghost use Rattle.commands.specs.Commands.{modeOf};
+ghost use Rattle.commands.specs.Kinds.{modeOf};
 ghost use Rattle.commands.specs.Writing.{Writes};
 ghost use Rattle.batch.specs.Promises.{Does};
 use book::Added;
@@ -38,28 +37,6 @@ fn remove_refusal(answer: Removed) -> u64
         Removed::Gone => 0,
         Removed::NotHeld => 7,
     }
-}
-
-// May the question's blanks be filled? Kind 2 is variants, 3 instances, 4 generalisations, 5 unifiables.
-fn fills_question(kind: u16) -> bool
-    requires { ⌜ (2 ≤ kind) × (kind ≤ 5) ⌝ }
-    ensures { λ r. ⌜ r ≡ fillsQuestion (modeOf kind) ⌝ }
-{
-    if kind == 3 {
-        return true;
-    }
-    kind == 5
-}
-
-// May the rule's?
-fn fills_rule(kind: u16) -> bool
-    requires { ⌜ (2 ≤ kind) × (kind ≤ 5) ⌝ }
-    ensures { λ r. ⌜ r ≡ fillsRule (modeOf kind) ⌝ }
-{
-    if kind == 4 {
-        return true;
-    }
-    kind == 5
 }
 
 // Adds a rule. Whether the record has room is known before the book is touched.
@@ -102,23 +79,23 @@ fn has_room(marks: &[u64], room: usize) -> bool
     questions::count(marks) < room
 }
 
-// Lists the rules that answer a question. Whether they have room is known before anything is written. The marks are memory to
+// Lists the rules that answer a question, by whether its own blanks and the rule's may be filled. Whether they have room is known before anything is written. The marks are memory to
 // work in: what they held goes, and what they hold afterwards is of no matter.
-pub fn ask(book: &[u64], kind: u16, question: &[u16], marks: &mut [u64], out: &mut [u16]) -> usize
+pub fn ask(
+    book: &[u64],
+    fills_question: bool,
+    fills_rule: bool,
+    question: &[u16],
+    marks: &mut [u64],
+    out: &mut [u16],
+) -> usize
     requires { ⌜ Passing (now book) ⌝ }
-    requires { ⌜ (2 ≤ kind) × (kind ≤ 5) ⌝ }
     requires { ⌜ IsTerm (now question) ⌝ }
     requires { ⌜ length (now marks) ≡ 65 ⌝ }
-    ensures { λ n. ⌜ Writes (asks (rulesIn (now (book .entry))) kind (now (question .entry)) .answer) (now (out .entry)) (now (out .exit)) n ⌝ }
+    ensures { λ n. ⌜ Writes (asks (rulesIn (now (book .entry))) (modeOf «fills_question» «fills_rule») (now (question .entry)) .answer) (now (out .entry)) (now (out .exit)) n ⌝ }
 {
     bits::numbers::empty(marks);
-    questions::mark_answers(
-        book,
-        fills_question(kind),
-        fills_rule(kind),
-        question,
-        marks,
-    );
+    questions::mark_answers(book, fills_question, fills_rule, question, marks);
     if !has_room(marks, out.len()) {
         return 0;
     }

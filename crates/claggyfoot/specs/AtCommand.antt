@@ -16,16 +16,19 @@ use Rattle.book.specs.Facts.{Limited, limited}
 use Rattle.questions.specs.Demand2.{never-more}
 use Rattle.commands.specs.Records.{Record, bare, written}
 use Rattle.commands.specs.declared.reader.Command.{Command}
-use Rattle.commands.specs.declared.reader.Command.the-variants.{Add, Remove, Ask, Show, Room, Stops}
-use Rattle.commands.specs.Commands.{commandIn, stopOf, modeOf}
-use Rattle.batch.specs.Effects.{Change, more, changeOf, Effect, shown, tells, does}
+use Rattle.commands.specs.declared.kinds.Act.{Act}
+use Rattle.commands.specs.declared.kinds.Act.the-variants.{Unknown, Add, Remove, Ask, Show, Room}
+use Rattle.commands.specs.Kinds.{modeOf, kindAt}
+use Rattle.commands.specs.Commands.{commandIn}
+use Rattle.commands.specs.Laws.{TakesTerm, FaultIs, term-fault, act-is, number-is, read-of}
+use Rattle.batch.specs.Effects.{Change, more, changeOf, Effect, shown, tells, acts, does}
 use Rattle.batch.specs.Run.{Outcome, ends, endsWith, goesOn, run}
 use Rattle.batch.specs.Promises.{Came, Changes, Along, none, then, ran, turned-away, passing}
-use Rattle.batch.specs.Laws.{rest, run-none, run-10, run-stops, run-goes-on, along-on, unchanged}
+use Rattle.batch.specs.Laws.{does-stop, does-act, any-effect, rest, run-none, run-10, run-stops, run-goes-on, along-on, unchanged}
 use Rattle.claggyfoot.specs.Stages.{Stage, onward, Reaches, start, next, from, reached, does-rules, first-of, MemoryAt, memory-at}
 use Rattle.claggyfoot.specs.Calls.{Exactly, Call, Kept, CameTo, Idle, NodesTaken, effectOf, sizeOf, StopsHere, Answered, Ended, GoneOn, RefusedOn, StoppedBy}
 use Rattle.claggyfoot.specs.NewNodes.{InUse, freeBelow, which-nodes}
-use Rattle.claggyfoot.specs.Refusals.{TakesTerm, FaultIs, Adds-term, term-fault, add-refused, goes-on-with, is-added, told-only, refused-stays, stops-low}
+use Rattle.claggyfoot.specs.Refusals.{Adds-term, add-refused, goes-on-with, is-added, told-only, refused-stays}
 
 -- ---- records one after another
 
@@ -58,40 +61,35 @@ shown-bare nothing n = refl
 shown-bare (rule t) n = absurd (n refl)
 
 pub refused-bare : (rules : Rules) (behind : List ℕ) (x : Command) → ¬ (does rules behind x .answer .refusal ≡ 0) → does rules behind x .answer ≡ bare (does rules behind x .answer .refusal)
-unfolding does
-refused-bare rules behind (Add number size) n = refl
-refused-bare rules behind (Remove number) n = refl
-refused-bare rules behind (Ask kind size) n = absurd (n refl)
-refused-bare rules behind (Show number) n = shown-bare (rules number) n
-refused-bare rules behind Room n = absurd (n refl)
-refused-bare rules behind (Stops refusal) n = refl
+refused-bare rules behind x = any-effect rules behind x (λ e. ¬ (e .answer .refusal ≡ 0) → e .answer ≡ bare (e .answer .refusal)) (go (x .act) (x .number) (take (x .size) behind)) (λ n. refl)
+  where
+    go : (a : Act) (k : ℕ) (t : List ℕ) → ¬ (acts a rules k t .answer .refusal ≡ 0) → acts a rules k t .answer ≡ bare (acts a rules k t .answer .refusal)
+    go Unknown k t n = refl
+    go Add k t n = refl
+    go Remove k t n = refl
+    go (Ask fq fr) k t n = absurd (n refl)
+    go Show k t n = shown-bare (rules k) n
+    go Room k t n = absurd (n refl)
 
 -- a record's count has room in its 12 bits
 short-record : (rules : Rules) → Limited rules → (behind : List ℕ) (x : Command) → length (does rules behind x .answer .cells) < 4096
-unfolding does
-short-record rules l behind (Add number size) = omega arith
-short-record rules l behind (Remove number) = omega arith
-short-record rules l behind (Ask kind size) = let a = never-more (modeOf kind) (take size behind) rules in let b = l .few in omega arith
-short-record rules l behind (Show number) = go (rules number) refl
+short-record rules l behind x = any-effect rules behind x (λ e. length (e .answer .cells) < 4096) (go (x .act) (x .number) (take (x .size) behind)) (omega arith)
   where
-    go : (h : Held) → rules number ≡ h → length (shown h .cells) < 4096
-    go nothing e = omega arith
-    go (rule t) e = let a = whole-term t (length t) (l .whole number t e) .short in omega arith
-short-record rules l behind Room = omega arith
-short-record rules l behind (Stops refusal) = omega arith
+    showing : (k : ℕ) (h : Held) → rules k ≡ h → length (shown h .cells) < 4096
+    showing k nothing e = omega arith
+    showing k (rule t) e = let a = whole-term t (length t) (l .whole k t e) .short in omega arith
 
--- a command that stops the batch is `Stops`
-pub stops-is : (x : Command) (r : ℕ) → stopOf x ≡ r → ¬ (r ≡ 0) → x ≡ Stops r
-stops-is (Add number size) r e n = absurd (n (sym e))
-stops-is (Remove number) r e n = absurd (n (sym e))
-stops-is (Ask kind size) r e n = absurd (n (sym e))
-stops-is (Show number) r e n = absurd (n (sym e))
-stops-is Room r e n = absurd (n (sym e))
-stops-is (Stops refusal) r e n = ap Stops e
+    go : (a : Act) (k : ℕ) (t : List ℕ) → length (acts a rules k t .answer .cells) < 4096
+    go Unknown k t = omega arith
+    go Add k t = omega arith
+    go Remove k t = omega arith
+    go (Ask fq fr) k t = let a = never-more (modeOf fq fr) t rules in let b = l .few in omega arith
+    go Show k t = showing k (rules k) refl
+    go Room k t = omega arith
 
-pub does-stops : (rules : Rules) (behind : List ℕ) (x : Command) (r : ℕ) → x ≡ Stops r → does rules behind x ≡ tells (bare r) rules
-unfolding does
-does-stops rules behind x r e = ap (does rules behind) e
+-- a command that stops the batch only tells with which number
+pub does-stops : (rules : Rules) (behind : List ℕ) (x : Command) (r : ℕ) → ¬ (r ≡ 0) → x .stop ≡ r → does rules behind x ≡ tells (bare r) rules
+does-stops rules behind x r n e = does-stop rules behind x (λ z. n (sym e ∙ z)) ∙ ap (λ (j : ℕ). tells (bare j) rules) e
 
 -- what a refused command does: it tells its refusal, and nothing else
 pub refused-tells : (rules : Rules) (behind : List ℕ) (x : Command) (r : ℕ) → ¬ (r ≡ 0) → does rules behind x .answer .refusal ≡ r → does rules behind x ≡ tells (bare r) rules
@@ -147,13 +145,13 @@ module _ {call : Call} {s : Stage} {c : ℕ} {behind : List ℕ} (at : CameTo ca
   pub ended-10 : s .room ≤ length (effect .answer .cells) → Ended call s 10 (s .records)
   ended-10 l = subst (Ended call s 10) (append-nil (s .records)) (ends-here 10 [] (run-10 (s .rules) c behind (s .room) l))
 
-  pub ended-by : (r : ℕ) → ¬ (r ≡ 0) → command ≡ Stops r → 0 < s .room → StoppedBy call s r
+  pub ended-by : (r : ℕ) → ¬ (r ≡ 0) → command .stop ≡ r → 0 < s .room → StoppedBy call s r
   ended-by r n e h =
-      let same : effect ≡ tells (bare r) (s .rules) = does-stops (s .rules) behind command r e in
+      let same : effect ≡ tells (bare r) (s .rules) = does-stops (s .rules) behind command r n e in
       let few : length (effect .answer .cells) < s .room = subst (λ (x : Effect). length (x .answer .cells) < s .room) (sym same) h in
-      ends-here r (bare r ∷ []) (run-stops (s .rules) c behind (s .room) few (λ z. n (sym (ap stopOf e) ∙ z)) ∙ ap₂ endsWith (ap stopOf e) same)
+      ends-here r (bare r ∷ []) (run-stops (s .rules) c behind (s .room) few (λ z. n (sym e ∙ z)) ∙ ap₂ endsWith e same)
 
-  pub gone-on : length (effect .answer .cells) < s .room → stopOf command ≡ 0 → GoneOn call s (effect .answer) (onward s (sizeOf c behind) effect behind)
+  pub gone-on : length (effect .answer .cells) < s .room → command .stop ≡ 0 → GoneOn call s (effect .answer) (onward s (sizeOf c behind) effect behind)
   gone-on l z =
       let o = rest (s .rules) c behind (s .room) in
       let x = comes (goesOn (suc (sizeOf c behind)) effect o) (run-goes-on (s .rules) c behind (s .room) l z) in
@@ -169,7 +167,7 @@ module _ {call : Call} {s : Stage} {c : ℕ} {behind : List ℕ} (at : CameTo ca
 
   -- it ends here exactly when its record has no room or it stops the batch
   sees : length (effect .answer .cells) < s .room → Answered call s (effect .answer .refusal)
-  sees l = go (ℕ-discrete (stopOf command) 0)
+  sees l = go (ℕ-discrete (command .stop) 0)
     where
       low : length (effect .answer .cells) < 4096
       low = short-record (s .rules) limits behind command
@@ -181,13 +179,12 @@ module _ {call : Call} {s : Stage} {c : ℕ} {behind : List ℕ} (at : CameTo ca
           let d = low in
           (omega arith, omega arith)
 
-      go : Dec (stopOf command ≡ 0) → Answered call s (effect .answer .refusal)
+      go : Dec (command .stop ≡ 0) → Answered call s (effect .answer .refusal)
       go (yes z) = let g = gone-on l z in with-records (g .after) (g .written-is) (g .output-is)
       go (no z) =
-          let is = stops-is command (stopOf command) refl z in
-          let same = does-stops (s .rules) behind command (stopOf command) is in
-          let x = ended-by (stopOf command) z is (omega arith) in
-          let e : bare (stopOf command) ≡ effect .answer = ap (λ (f : Effect). f .answer) (sym same) in
+          let same = does-stops (s .rules) behind command (command .stop) z refl in
+          let x = ended-by (command .stop) z refl (omega arith) in
+          let e : bare (command .stop) ≡ effect .answer = ap (λ (f : Effect). f .answer) (sym same) in
           with-records [] (x .written-is ∙ ap (λ (a : Record). length (written (s .records ++ (a ∷ [])))) e)
           (x .output-is ∙ ap (λ (a : Record). written (s .records ++ (a ∷ [])) ++ drop (call .written-cells) (call .output)) e)
 
@@ -201,25 +198,23 @@ module _ {call : Call} {s : Stage} {c : ℕ} {behind : List ℕ} (at : CameTo ca
   -- ---- exactly when
 
   -- it stops here with r, and not for want of room
-  stops-only : (r : ℕ) → ¬ (r ≡ 0) → ¬ (r ≡ 10) → StopsHere call s r → (0 < s .room) × (command ≡ Stops r)
-  stops-only r n d x = go (decLt (length (effect .answer .cells)) (s .room)) (ℕ-discrete (stopOf command) 0)
+  stops-only : (r : ℕ) → ¬ (r ≡ 0) → ¬ (r ≡ 10) → StopsHere call s r → (0 < s .room) × (command .stop ≡ r)
+  stops-only r n d x = go (decLt (length (effect .answer .cells)) (s .room)) (ℕ-discrete (command .stop) 0)
     where
-      go : Dec (length (effect .answer .cells) < s .room) → Dec (stopOf command ≡ 0) → (0 < s .room) × (command ≡ Stops r)
+      go : Dec (length (effect .answer .cells) < s .room) → Dec (command .stop ≡ 0) → (0 < s .room) × (command .stop ≡ r)
       go (no l) z = absurd (d (sym (x .0) ∙ ended-10 (omega arith) .stop-is))
       go (yes l) (yes z) = absurd (let g = gone-on l z .counted in let u = x .1 in omega arith)
       go (yes l) (no z) =
-          let is = stops-is command (stopOf command) refl z in
-          let same : stopOf command ≡ r = sym (ended-by (stopOf command) z is (omega arith) .stop-is) ∙ x .0 in
-          (omega arith, is ∙ ap Stops same)
+          (omega arith, sym (ended-by (command .stop) z refl (omega arith) .stop-is) ∙ x .0)
 
-  pub stops-exactly : (r : ℕ) → ¬ (r ≡ 0) → ¬ (r ≡ 10) → {P : Type 0} → command ≡ Stops r ↔ P → Exactly (StopsHere call s r) ((0 < s .room) × P) (StoppedBy call s r)
+  pub stops-exactly : (r : ℕ) → ¬ (r ≡ 0) → ¬ (r ≡ 10) → {P : Type 0} → command .stop ≡ r ↔ P → Exactly (StopsHere call s r) ((0 < s .room) × P) (StoppedBy call s r)
   stops-exactly r n d {P} w = (((λ x. let y = stops-only r n d x in (y .0, w .0 (y .1))), (λ y. let e = all y in (e .stop-is, e .used-is))), all)
     where
       all : (0 < s .room) × P → StoppedBy call s r
       all y = ended-by r n (w .1 (y .1)) (y .0)
 
   -- the batch goes on behind a refused command: the same words
-  pub idle-stays : effect .changes ≡ [] → length (effect .answer .cells) < s .room → stopOf command ≡ 0 → (m : List ℕ) → MemoryAt (call .book) (call .book′) s m → MemoryAt (call .book) (call .book′) (onward s (sizeOf c behind) effect behind) m
+  pub idle-stays : effect .changes ≡ [] → length (effect .answer .cells) < s .room → command .stop ≡ 0 → (m : List ℕ) → MemoryAt (call .book) (call .book′) s m → MemoryAt (call .book) (call .book′) (onward s (sizeOf c behind) effect behind) m
   idle-stays e l z m x = record {
     passes = x .passes;
     rules-are = x .rules-are ∙ sym (does-rules (s .rules) behind command e);
@@ -229,7 +224,7 @@ module _ {call : Call} {s : Stage} {c : ℕ} {behind : List ℕ} (at : CameTo ca
         ∙ ap (λ (cs : List Change). cs ++ rest (s .rules) c behind (s .room) .changes) e) (x .to-come);
   }
 
-  pub refused-on : (r : ℕ) → ¬ (r ≡ 0) → stopOf command ≡ 0 → effect .answer .refusal ≡ r → 0 < s .room → RefusedOn call s r c behind
+  pub refused-on : (r : ℕ) → ¬ (r ≡ 0) → command .stop ≡ 0 → effect .answer .refusal ≡ r → 0 < s .room → RefusedOn call s r c behind
   refused-on r n z e h =
       let same = refused-tells (s .rules) behind command r n e in
       let few : length (effect .answer .cells) < s .room = subst (λ (x : Effect). length (x .answer .cells) < s .room) (sym same) h in
@@ -238,7 +233,7 @@ module _ {call : Call} {s : Stage} {c : ℕ} {behind : List ℕ} (at : CameTo ca
         same-words = λ m x. subst (λ (f : Effect). MemoryAt (call .book) (call .book′) (onward s (sizeOf c behind) f behind) m) same (idle-stays (ap (λ (f : Effect). f .changes) same) few z m x);
       }
 
-  pub refused-exactly : (r : ℕ) → ¬ (r ≡ 0) → (effect .answer .refusal ≡ r → stopOf command ≡ 0) → {P : Type 0} → effect .answer .refusal ≡ r ↔ P → Exactly (Answered call s r) ((0 < s .room) × P) (RefusedOn call s r c behind)
+  pub refused-exactly : (r : ℕ) → ¬ (r ≡ 0) → (effect .answer .refusal ≡ r → command .stop ≡ 0) → {P : Type 0} → effect .answer .refusal ≡ r ↔ P → Exactly (Answered call s r) ((0 < s .room) × P) (RefusedOn call s r c behind)
   refused-exactly r n goes {P} w =
       (((λ a. let x = answered r .0 a in (let l = x .0 in omega arith, w .0 (x .1))), (λ y. let e = w .1 (y .1) in answered r .1 (few e (y .0), e))), (λ y. let e = w .1 (y .1) in refused-on r n (goes e) e (y .0)))
     where
@@ -251,36 +246,39 @@ module _ {call : Call} {s : Stage} {c : ℕ} {behind : List ℕ} (at : CameTo ca
     where
       to : StopsHere call s 10 → Dec (length (effect .answer .cells) < s .room) → s .room ≤ length (effect .answer .cells)
       to x (no l) = omega arith
-      to x (yes l) = go (ℕ-discrete (stopOf command) 0)
+      to x (yes l) = go (ℕ-discrete (command .stop) 0)
         where
-          go : Dec (stopOf command ≡ 0) → s .room ≤ length (effect .answer .cells)
+          go : Dec (command .stop ≡ 0) → s .room ≤ length (effect .answer .cells)
           go (yes z) = absurd (let g = gone-on l z .counted in let u = x .1 in omega arith)
-          go (no z) = absurd (let is = stops-is command (stopOf command) refl z in let e : stopOf command ≡ 10 = sym (ended-by (stopOf command) z is (omega arith) .stop-is) ∙ x .0 in let low = stops-low c behind in omega arith)
+          go (no z) = absurd (let e : command .stop ≡ 10 = sym (ended-by (command .stop) z refl (omega arith) .stop-is) ∙ x .0 in let low = read-of (c / 4096) (c % 4096) behind (omega arith) .stop-low in omega arith)
 
   -- 3, 4, 5; and 6, 8, 9
-  pub fault-exactly : (r : ℕ) → 3 ≤ r → ¬ (r ≡ 10) → {P : Type 0} → FaultIs r behind ↔ P → Exactly (StopsHere call s r) ((0 < s .room) × (TakesTerm (c / 4096) (c % 4096) × P)) (StoppedBy call s r)
+  pub fault-exactly : (r : ℕ) → 3 ≤ r → ¬ (r ≡ 10) → {P : Type 0} → FaultIs r behind ↔ P → Exactly (StopsHere call s r) ((0 < s .room) × (TakesTerm (kindAt (c / 4096)) (c % 4096) × P)) (StoppedBy call s r)
   fault-exactly r h d {P} w =
-      let t = term-fault (c / 4096) (c % 4096) behind r h in
-      stops-exactly r (λ e. absurd (omega arith)) d {P = TakesTerm (c / 4096) (c % 4096) × P} ((λ e. let x = t .0 e in (x .0, w .0 (x .1))), (λ x. t .1 (x .0, w .1 (x .1))))
+      let t = term-fault (kindAt (c / 4096)) (c % 4096) behind r h in
+      stops-exactly r (λ e. absurd (omega arith)) d {P = TakesTerm (kindAt (c / 4096)) (c % 4096) × P} ((λ e. let x = t .0 e in (x .0, w .0 (x .1))), (λ x. t .1 (x .0, w .1 (x .1))))
 
   pub add-exactly : (r : ℕ) → 6 ≤ r → ¬ (r ≡ 7) → {P : Type 0} → addRefusal (judged (s .rules) (c % 4096) (take (sizeOf c behind) behind)) ≡ r ↔ P
-      → Exactly (Answered call s r) ((0 < s .room) × (Adds-term (c / 4096) behind (sizeOf c behind) × P)) (RefusedOn call s r c behind)
+      → Exactly (Answered call s r) ((0 < s .room) × (Adds-term (kindAt (c / 4096)) behind (sizeOf c behind) × P)) (RefusedOn call s r c behind)
   add-exactly r h n {P} w =
-      let t = add-refused (s .rules) (c / 4096) (c % 4096) behind r h n in
-      refused-exactly r (λ e. absurd (omega arith)) (goes-on-with (s .rules) (c / 4096) (c % 4096) behind r (λ x. let a = x .1 in omega arith)) {P = Adds-term (c / 4096) behind (sizeOf c behind) × P}
+      let t = add-refused (s .rules) (c / 4096) (c % 4096) (omega arith) behind r h n in
+      refused-exactly r (λ e. absurd (omega arith)) (goes-on-with (s .rules) (c / 4096) (c % 4096) (omega arith) behind r (λ x. let a = x .1 in omega arith)) {P = Adds-term (kindAt (c / 4096)) behind (sizeOf c behind) × P}
       ((λ e. let x = t .0 e in (x .0, w .0 (x .1))), (λ x. t .1 (x .0, w .1 (x .1))))
 
   -- ---- an add that takes effect
 
-  taken-does : Adds-term (c / 4096) behind (sizeOf c behind) → judged (s .rules) (c % 4096) (take (sizeOf c behind) behind) ≡ Taken
+  goes-on : Adds-term (kindAt (c / 4096)) behind (sizeOf c behind) → command .stop ≡ 0
+  goes-on x = ap (λ (y : Command). y .stop) (is-added (s .rules) (c / 4096) (c % 4096) (omega arith) behind (sizeOf c behind) x)
+
+  taken-does : Adds-term (kindAt (c / 4096)) behind (sizeOf c behind) → judged (s .rules) (c % 4096) (take (sizeOf c behind) behind) ≡ Taken
       → effect ≡ record { answer = bare 0; rules = withRule (s .rules) (c % 4096) (take (sizeOf c behind) behind); changes = more (c % 4096) (take (sizeOf c behind) behind) ∷ [] }
-  unfolding does
   taken-does x e =
       let k = c % 4096 in let t = take (sizeOf c behind) behind in
-      ap (does (s .rules) behind) (is-added (s .rules) (c / 4096) k behind (sizeOf c behind) x)
+      does-act (s .rules) behind command (goes-on x)
+      ∙ ap₂ (λ (a : Act) (j : ℕ). acts a (s .rules) j t) (act-is (kindAt (c / 4096)) k behind ∙ x .0) (number-is (kindAt (c / 4096)) k behind)
       ∙ ap (λ (a : Added). record { answer = bare (addRefusal a); rules = after a (s .rules) k t; changes = changeOf a k t }) e
 
-  pub nodes-taken : 0 < s .room → Adds-term (c / 4096) behind (sizeOf c behind) → judged (s .rules) (c % 4096) (take (sizeOf c behind) behind) ≡ Taken → NodesTaken call s (onward s (sizeOf c behind) effect behind)
+  pub nodes-taken : 0 < s .room → Adds-term (kindAt (c / 4096)) behind (sizeOf c behind) → judged (s .rules) (c % 4096) (take (sizeOf c behind) behind) ≡ Taken → NodesTaken call s (onward s (sizeOf c behind) effect behind)
   nodes-taken h x e =
       record {
         before = m .0;
@@ -308,15 +306,12 @@ module _ {call : Call} {s : Stage} {c : ℕ} {behind : List ℕ} (at : CameTo ca
       few : length (effect .answer .cells) < s .room
       few = subst (λ (z : Effect). length (z .answer .cells) < s .room) (sym (taken-does x e)) h
 
-      goes : stopOf command ≡ 0
-      goes = ap stopOf (is-added (s .rules) (c / 4096) k behind (sizeOf c behind) x)
-
       m : (m : List ℕ) × MemoryAt (call .book) (call .book′) s m
       m = memory
 
       f : (m′ : List ℕ) × Changes (more k t) (m .0) m′ × Along (rest (s .rules) c behind (s .room) .changes) m′ (call .book′)
       f = first-of (more k t) (rest (s .rules) c behind (s .room) .changes) (m .1 .to-come)
-          (ap (λ (y : List ℕ). run (s .rules) y (s .room) .changes) (at .here) ∙ ap (λ (o : Outcome). o .changes) (run-goes-on (s .rules) c behind (s .room) few goes)
+          (ap (λ (y : List ℕ). run (s .rules) y (s .room) .changes) (at .here) ∙ ap (λ (o : Outcome). o .changes) (run-goes-on (s .rules) c behind (s .room) few (goes-on x))
           ∙ ap (λ (cs : List Change). cs ++ rest (s .rules) c behind (s .room) .changes) new)
 
       held : rulesIn (f .0) ≡ effect .rules
@@ -326,7 +321,7 @@ module _ {call : Call} {s : Stage} {c : ℕ} {behind : List ℕ} (at : CameTo ca
 
 pub idle : (s : Stage) (c : ℕ) (behind : List ℕ) → Idle s c behind → effectOf s c behind .changes ≡ []
 idle s c behind (inl n) = refused-stays (s .rules) behind (commandIn (c ∷ behind)) n
-idle s c behind (inr x) = told-only (s .rules) (c / 4096) (c % 4096) behind (x .0)
+idle s c behind (inr x) = told-only (s .rules) (c / 4096) (c % 4096) (omega arith) behind (x .0)
 
 module _ (call : Call) (kept : Kept call) (p : Passing (call .book)) (all : (s : Stage) (c : ℕ) (behind : List ℕ) → CameTo call s c behind → Idle s c behind) where
   abbrev Comes-to : Stage → Type 0
@@ -336,7 +331,7 @@ module _ (call : Call) (kept : Kept call) (p : Passing (call .book)) (all : (s :
   none-from zero s r [] e h = ap (λ (o : Outcome). o .changes) (run-none (s .rules) (s .room))
   none-from zero s r (c ∷ behind) e h = absurd (omega arith)
   none-from (suc fuel) s r [] e h = ap (λ (o : Outcome). o .changes) (run-none (s .rules) (s .room))
-  none-from (suc fuel) s r (c ∷ behind) e h = go (λ t q l. none-from fuel t q (t .cells) refl l) (decLt (length (x .answer .cells)) (s .room)) (ℕ-discrete (stopOf (commandIn (c ∷ behind))) 0)
+  none-from (suc fuel) s r (c ∷ behind) e h = go (λ t q l. none-from fuel t q (t .cells) refl l) (decLt (length (x .answer .cells)) (s .room)) (ℕ-discrete (commandIn (c ∷ behind) .stop) 0)
     where
       x : Effect
       x = effectOf s c behind
@@ -344,7 +339,7 @@ module _ (call : Call) (kept : Kept call) (p : Passing (call .book)) (all : (s :
       stay : x .changes ≡ []
       stay = idle s c behind (all s c behind (record { kept = kept; passes = p; reaches = r; here = e }))
 
-      go : ((t : Stage) → Comes-to t → length (t .cells) ≤ fuel → run (t .rules) (t .cells) (t .room) .changes ≡ []) → Dec (length (x .answer .cells) < s .room) → Dec (stopOf (commandIn (c ∷ behind)) ≡ 0) → run (s .rules) (c ∷ behind) (s .room) .changes ≡ []
+      go : ((t : Stage) → Comes-to t → length (t .cells) ≤ fuel → run (t .rules) (t .cells) (t .room) .changes ≡ []) → Dec (length (x .answer .cells) < s .room) → Dec (commandIn (c ∷ behind) .stop ≡ 0) → run (s .rules) (c ∷ behind) (s .room) .changes ≡ []
       go ih (no l) z = ap (λ (o : Outcome). o .changes) (run-10 (s .rules) c behind (s .room) (omega arith))
       go ih (yes l) (no z) = ap (λ (o : Outcome). o .changes) (run-stops (s .rules) c behind (s .room) l z) ∙ stay
       go ih (yes l) (yes z) =

@@ -7,7 +7,7 @@ use lib.ListN.{length, getD, drop}
 use Rattle.book.specs.Rules.{nodesOf}
 use Rattle.book.specs.Memory.{Passing, rulesIn}
 use Rattle.commands.specs.Records.{Record, bare, written}
-use Rattle.commands.specs.Commands.{commandIn, termSize}
+use Rattle.commands.specs.Commands.{commandIn}
 use Rattle.batch.specs.Effects.{Effect, does, tells}
 use Rattle.batch.specs.Promises.{Runs}
 use Rattle.claggyfoot.specs.Stages.{Stage, onward, Reaches, MemoryAt}
@@ -44,7 +44,7 @@ abbrev pub effectOf : Stage → ℕ → List ℕ → Effect
 effectOf s c behind = does (s .rules) behind (commandIn (c ∷ behind))
 
 abbrev pub sizeOf : ℕ → List ℕ → ℕ
-sizeOf c behind = termSize (commandIn (c ∷ behind))
+sizeOf c behind = commandIn (c ∷ behind) .size
 
 -- The command is refused, or of kind 2 to 7.
 abbrev pub Idle : Stage → ℕ → List ℕ → Type 0

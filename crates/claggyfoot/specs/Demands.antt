@@ -17,7 +17,7 @@ use native.Mathlib.Decide.{ℕ-discrete}
 use lib.ListN.{length, getD, take, drop}
 use lib.Seq.{take-at}
 use Rattle.layout.specs.Layout.{bookWords}
-use Rattle.term.specs.Questions.{instances, generalisations}
+use Rattle.term.specs.Questions.{Mode, instances, generalisations}
 use Rattle.term.specs.declared.reading.Fault.the-variants.{TooLong, CutShort, FieldSet, AboveFifteen, AboveCount}
 use Rattle.names.specs.Name.{IsName}
 use Rattle.names.specs.Table.{Holds, Missing, put, Passes as PassesTable}
@@ -29,17 +29,19 @@ use Rattle.book.specs.Facts.{empty-passes, empties-once}
 use Rattle.questions.specs.Asking.{Ordered, answers, Listed}
 use Rattle.questions.specs.Demand2.{WholeRules, lists, ordered, never-more, other-way-listed}
 use Rattle.commands.specs.Records.{Record, good, written}
-use Rattle.commands.specs.declared.reader.Command.{Command}
-use Rattle.commands.specs.declared.reader.Command.the-variants.{Ask}
-use Rattle.commands.specs.Commands.{commandIn, termSize, stopOf, modeOf, Read}
-use Rattle.batch.specs.Effects.{Effect, tells, does}
+use Rattle.commands.specs.declared.kinds.Act.{Act}
+use Rattle.commands.specs.declared.kinds.Kind.{Kind}
+use Rattle.commands.specs.Kinds.{ask, kindAt, aboutTerm, mode-is}
+use Rattle.commands.specs.Words.{InWords, in-words}
+use Rattle.commands.specs.Commands.{commandIn}
+use Rattle.commands.specs.Laws.{Wrong, TakesTerm, Faulty, fault-3, fault-4, fault-5, two, act-is, whole-behind, read-of}
+use Rattle.batch.specs.Effects.{Effect, tells, acts, does}
 use Rattle.batch.specs.Run.{Outcome, run}
 use Rattle.batch.specs.Promises.{Came, Ran, Turned-away, Runs, ran, turned-away, passing}
-use Rattle.commands.specs.Laws.{whole-behind, read-of}
-use Rattle.batch.specs.Laws.{unchanged}
+use Rattle.batch.specs.Laws.{does-act, unchanged}
 use Rattle.claggyfoot.specs.Stages.{Stage, onward, does-rules, MemoryAt}
 use Rattle.claggyfoot.specs.Calls.{Exactly, Call, Kept, CameTo, effectOf, sizeOf, Idle, StopsHere, Answered, Ended, GoneOn, RefusedOn, StoppedBy, NodesTaken}
-use Rattle.claggyfoot.specs.Refusals.{Wrong, TakesTerm, Faulty, Adds-term, Names-rule, Held-already, StopNumber, Ends, fault-3, fault-4, fault-5, two, six, eight, nine, not-held, goes-on-with, batch-ends}
+use Rattle.claggyfoot.specs.Refusals.{Adds-term, Names-rule, Held-already, StopNumber, Ends, six, eight, nine, not-held, goes-on-with, batch-ends}
 use Rattle.claggyfoot.specs.AtCommand.{limits, answered, stops-exactly, refused-exactly, ten, gone-on, fault-exactly, add-exactly, nodes-taken, idle, idle-stays, idle-keeps}
 use Rattle.claggyfoot.specs.Naming.{Gave, Told, enter-1, enter-11, enter-12, enter-held, enter-new, name-of-1, name-of-13, name-of-held}
 use Rattle.claggyfoot.specs.Numbers.{EntersNumbers, StandsNumbers, ChecksNumber, passing as passing-number, failing}
@@ -73,10 +75,17 @@ refusal-1-enter = enter-1
 pub refusal-1-name-of : {table : List ℕ} {number refusal start size : ℕ} (call : StandsNumbers table number refusal start size) → Exactly (refusal ≡ 1) (¬ (PassesTable table)) (Told call 1 0 0)
 refusal-1-name-of = name-of-1
 
+-- The kinds are rows of one table (crates/commands/specs/Kinds). For which kinds a row says what, in the words of the table of commands:
+pub kinds-in-words : (k : ℕ) → InWords k
+kinds-in-words = in-words
+
 -- Each command that a batch on a book that passes comes to.
 module _ {call : Call} {s : Stage} {c : ℕ} {behind : List ℕ} (at : CameTo call s c behind) where
   abbrev kind : ℕ
   kind = c / 4096
+
+  abbrev row : Kind
+  row = kindAt kind
 
   abbrev number : ℕ
   number = c % 4096
@@ -88,36 +97,36 @@ module _ {call : Call} {s : Stage} {c : ℕ} {behind : List ℕ} (at : CameTo ca
   abbrev term : List ℕ
   term = take size behind
 
-  -- 2: kind 8 to 15, or number not 0 where it must be. Record 2000, stop.
-  pub refusal-2 : Exactly (StopsHere call s 2) ((0 < s .room) × Wrong kind number) (StoppedBy call s 2)
-  refusal-2 = stops-exactly at 2 (λ e. absurd (omega arith)) (λ e. absurd (omega arith)) (two kind number behind)
+  -- 2: an unknown kind, or number not 0 where it must be. Record 2000, stop.
+  pub refusal-2 : Exactly (StopsHere call s 2) ((0 < s .room) × Wrong row number) (StoppedBy call s 2)
+  refusal-2 = stops-exactly at 2 (λ e. absurd (omega arith)) (λ e. absurd (omega arith)) (two row number behind)
 
   -- 3: the cells end while a subterm is wanted. Record 3000, stop.
-  pub refusal-3 : Exactly (StopsHere call s 3) ((0 < s .room) × (TakesTerm kind number × Faulty CutShort behind)) (StoppedBy call s 3)
+  pub refusal-3 : Exactly (StopsHere call s 3) ((0 < s .room) × (TakesTerm row number × Faulty CutShort behind)) (StoppedBy call s 3)
   refusal-3 = fault-exactly at 3 (omega arith) (λ e. absurd (omega arith)) (fault-3 behind)
 
   -- 4: a variable cell with a bit of its 3-bit field set, a number above 15, or a number above the count of variables so far. Record 4000, stop.
-  pub refusal-4 : Exactly (StopsHere call s 4) ((0 < s .room) × (TakesTerm kind number × (Faulty FieldSet behind ⊎ (Faulty AboveFifteen behind ⊎ Faulty AboveCount behind)))) (StoppedBy call s 4)
+  pub refusal-4 : Exactly (StopsHere call s 4) ((0 < s .room) × (TakesTerm row number × (Faulty FieldSet behind ⊎ (Faulty AboveFifteen behind ⊎ Faulty AboveCount behind)))) (StoppedBy call s 4)
   refusal-4 = fault-exactly at 4 (omega arith) (λ e. absurd (omega arith)) (fault-4 behind)
 
   -- 5: 32 cells read, a subterm still wanted. Record 5000, stop.
-  pub refusal-5 : Exactly (StopsHere call s 5) ((0 < s .room) × (TakesTerm kind number × Faulty TooLong behind)) (StoppedBy call s 5)
+  pub refusal-5 : Exactly (StopsHere call s 5) ((0 < s .room) × (TakesTerm row number × Faulty TooLong behind)) (StoppedBy call s 5)
   refusal-5 = fault-exactly at 5 (omega arith) (λ e. absurd (omega arith)) (fault-5 behind)
 
   -- 6: add, number already held. Record 6000, go on.
-  pub refusal-6 : Exactly (Answered call s 6) ((0 < s .room) × (Adds-term kind behind size × Held-already (s .rules) number)) (RefusedOn call s 6 c behind)
+  pub refusal-6 : Exactly (Answered call s 6) ((0 < s .room) × (Adds-term row behind size × Held-already (s .rules) number)) (RefusedOn call s 6 c behind)
   refusal-6 = add-exactly at 6 (omega arith) (λ e. absurd (omega arith)) (six (s .rules) number term)
 
   -- 7: remove, show: number not held. Record 7000, go on.
-  pub refusal-7 : Exactly (Answered call s 7) ((0 < s .room) × (Names-rule kind × (s .rules number ≡ nothing))) (RefusedOn call s 7 c behind)
-  refusal-7 = refused-exactly at 7 (λ e. absurd (omega arith)) (goes-on-with (s .rules) kind number behind 7 (λ x. let a = x .1 in omega arith)) (not-held (s .rules) kind number behind)
+  pub refusal-7 : Exactly (Answered call s 7) ((0 < s .room) × (Names-rule row × (s .rules number ≡ nothing))) (RefusedOn call s 7 c behind)
+  refusal-7 = refused-exactly at 7 (λ e. absurd (omega arith)) (goes-on-with (s .rules) kind number (omega arith) behind 7 (λ x. let a = x .1 in omega arith)) (not-held (s .rules) kind number (omega arith) behind)
 
   -- 8: add, 512 rules held (and not 6). Record 8000, go on.
-  pub refusal-8 : Exactly (Answered call s 8) ((0 < s .room) × (Adds-term kind behind size × ((s .rules number ≡ nothing) × (512 ≤ ruleCount (s .rules))))) (RefusedOn call s 8 c behind)
+  pub refusal-8 : Exactly (Answered call s 8) ((0 < s .room) × (Adds-term row behind size × ((s .rules number ≡ nothing) × (512 ≤ ruleCount (s .rules))))) (RefusedOn call s 8 c behind)
   refusal-8 = add-exactly at 8 (omega arith) (λ e. absurd (omega arith)) (eight (s .rules) number term)
 
   -- 9: add, node count with the rule would pass 4,096 (and neither 6 nor 8). Record 9000, go on.
-  pub refusal-9 : Exactly (Answered call s 9) ((0 < s .room) × (Adds-term kind behind size × ((s .rules number ≡ nothing) × (ruleCount (s .rules) < 512) × (4096 < nodesOf (withRule (s .rules) number term))))) (RefusedOn call s 9 c behind)
+  pub refusal-9 : Exactly (Answered call s 9) ((0 < s .room) × (Adds-term row behind size × ((s .rules number ≡ nothing) × (ruleCount (s .rules) < 512) × (4096 < nodesOf (withRule (s .rules) number term))))) (RefusedOn call s 9 c behind)
   refusal-9 = add-exactly at 9 (omega arith) (λ e. absurd (omega arith)) (nine (s .rules) number term)
 
   -- 10: the record, good or refused, doesn't fit in the output left. No record, no effect, stop.
@@ -126,19 +135,19 @@ module _ {call : Call} {s : Stage} {c : ℕ} {behind : List ℕ} (at : CameTo ca
 
   -- A command that is not refused: its record is the one that `does` says, the rules after it too, and the batch goes on.
   pub not-refused : Exactly (Answered call s 0) ((length (effectOf s c behind .answer .cells) < s .room) × (effectOf s c behind .answer .refusal ≡ 0)) (GoneOn call s (effectOf s c behind .answer) (onward s size (effectOf s c behind) behind))
-  not-refused = (answered at 0, λ x. gone-on at (x .0) (goes-on-with (s .rules) kind number behind 0 (λ y. let a = y .0 in omega arith) (x .1)))
+  not-refused = (answered at 0, λ x. gone-on at (x .0) (goes-on-with (s .rules) kind number (omega arith) behind 0 (λ y. let a = y .0 in omega arith) (x .1)))
 
   -- A refused command never changes the book, nor does one of kind 2 to 7: the same rules ..
   pub refused-never-changes : Idle s c behind → effectOf s c behind .rules ≡ s .rules
   refused-never-changes i = does-rules (s .rules) behind (commandIn (c ∷ behind)) (idle s c behind i)
 
   -- .. and where the batch goes on the memory before it is the memory after it, word for word. (Where it stops there, see `memory-is` of `Ended`.)
-  pub refused-same-words : Idle s c behind → length (effectOf s c behind .answer .cells) < s .room → stopOf (commandIn (c ∷ behind)) ≡ 0
+  pub refused-same-words : Idle s c behind → length (effectOf s c behind .answer .cells) < s .room → commandIn (c ∷ behind) .stop ≡ 0
       → (m : List ℕ) → MemoryAt (call .book) (call .book′) s m → MemoryAt (call .book) (call .book′) (onward s size (effectOf s c behind) behind) m
   refused-same-words i = idle-stays at (idle s c behind i)
 
   -- An add that takes effect: which nodes come into use.
-  pub new-nodes : 0 < s .room → Adds-term kind behind size → judged (s .rules) number term ≡ Taken → NodesTaken call s (onward s size (effectOf s c behind) behind)
+  pub new-nodes : 0 < s .room → Adds-term row behind size → judged (s .rules) number term ≡ Taken → NodesTaken call s (onward s size (effectOf s c behind) behind)
   new-nodes = nodes-taken at
 
 -- 11: no name: empty, over 31 bytes, a byte outside 32 to 126, or first or last byte a space. Number 0, every byte of the table as it was.
@@ -190,35 +199,38 @@ batch-keeps = idle-keeps
 -- ==== Demand 2: a question lists exactly the rules that answer by the published meaning, ascending, each once
 
 -- The list of a question: a number is in it exactly when there is a rule under it in the relation with the question; ascending, so each once; never more than there are rules.
-pub record ListsExactly (kind : ℕ) (question : List ℕ) (rules : Rules) (numbers : List ℕ) : Type 0 where
-  pub exactly : (k : ℕ) → List·Memᴰ k numbers ↔ Listed (modeOf kind) question rules k
+pub record ListsExactly (mode : Mode) (question : List ℕ) (rules : Rules) (numbers : List ℕ) : Type 0 where
+  pub exactly : (k : ℕ) → List·Memᴰ k numbers ↔ Listed mode question rules k
   pub in-order : Ordered numbers
   pub few : length numbers ≤ ruleCount rules
 
 -- Each question that a batch comes to has such a list for its record, written in full, where the list has room; and then the batch goes on with the same rules.
-pub demand-2 : {call : Call} {s : Stage} {c : ℕ} {behind : List ℕ} → CameTo call s c behind → (kind size : ℕ) → commandIn (c ∷ behind) ≡ Ask kind size
-    → ListsExactly kind (take size behind) (s .rules) (answers (modeOf kind) (take size behind) (s .rules))
-    × (length (answers (modeOf kind) (take size behind) (s .rules)) < s .room
-    → GoneOn call s (good (answers (modeOf kind) (take size behind) (s .rules))) (onward s size (tells (good (answers (modeOf kind) (take size behind) (s .rules))) (s .rules)) behind))
-unfolding does
-demand-2 {call} {s} {c} {behind} at kind size is =
-    (record { exactly = lists (modeOf kind) q (s .rules) w (limits at .whole); in-order = ordered (modeOf kind) q (s .rules); few = never-more (modeOf kind) q (s .rules) }, there)
+pub demand-2 : {call : Call} {s : Stage} {c : ℕ} {behind : List ℕ} → CameTo call s c behind → (mode : Mode) → kindAt (c / 4096) .act ≡ ask mode → commandIn (c ∷ behind) .stop ≡ 0
+    → ListsExactly mode (take (sizeOf c behind) behind) (s .rules) (answers mode (take (sizeOf c behind) behind) (s .rules))
+    × (length (answers mode (take (sizeOf c behind) behind) (s .rules)) < s .room
+    → GoneOn call s (good (answers mode (take (sizeOf c behind) behind) (s .rules))) (onward s (sizeOf c behind) (tells (good (answers mode (take (sizeOf c behind) behind) (s .rules))) (s .rules)) behind))
+demand-2 {call} {s} {c} {behind} at mode is z =
+    (record { exactly = lists mode q (s .rules) w (limits at .whole); in-order = ordered mode q (s .rules); few = never-more mode q (s .rules) }, there)
   where
     q : List ℕ
-    q = take size behind
+    q = take (sizeOf c behind) behind
+
+    act : commandIn (c ∷ behind) .act ≡ ask mode
+    act = act-is (kindAt (c / 4096)) (c % 4096) behind ∙ is
 
     -- the question was read as a whole term
     w : IsTerm q
-    w = whole-behind behind size (subst (Read behind) is (read-of (c / 4096) (c % 4096) behind (omega arith)) .2)
+    w = whole-behind behind (sizeOf c behind) (read-of (c / 4096) (c % 4096) behind (omega arith) .whole z (ap aboutTerm act))
 
-    same : effectOf s c behind ≡ tells (good (answers (modeOf kind) q (s .rules))) (s .rules)
-    same = ap (does (s .rules) behind) is
+    same : effectOf s c behind ≡ tells (good (answers mode q (s .rules))) (s .rules)
+    same =
+        does-act (s .rules) behind (commandIn (c ∷ behind)) z ∙ ap (λ (a : Act). acts a (s .rules) (commandIn (c ∷ behind) .number) q) act
+        ∙ ap (λ (m : Mode). tells (good (answers m q (s .rules))) (s .rules)) (mode-is mode)
 
-    there : length (answers (modeOf kind) q (s .rules)) < s .room → GoneOn call s (good (answers (modeOf kind) q (s .rules))) (onward s size (tells (good (answers (modeOf kind) q (s .rules))) (s .rules)) behind)
+    there : length (answers mode q (s .rules)) < s .room → GoneOn call s (good (answers mode q (s .rules))) (onward s (sizeOf c behind) (tells (good (answers mode q (s .rules))) (s .rules)) behind)
     there l =
         let f : length (effectOf s c behind .answer .cells) < s .room = subst (λ (x : Effect). length (x .answer .cells) < s .room) (sym same) l in
-        subst (λ (x : Command). GoneOn call s (good (answers (modeOf kind) q (s .rules))) (onward s (termSize x) (tells (good (answers (modeOf kind) q (s .rules))) (s .rules)) behind)) is
-        (subst (λ (x : Effect). GoneOn call s (x .answer) (onward s (sizeOf c behind) x behind)) same (gone-on at f (ap stopOf is)))
+        subst (λ (x : Effect). GoneOn call s (x .answer) (onward s (sizeOf c behind) x behind)) same (gone-on at f z)
 
 -- A rule is listed as a generalisation of a pattern exactly when that pattern, were it the rule, would be listed as an instance of it.
 pub demand-2-other-way : (rules swapped : Rules) (q t : List ℕ) (k : ℕ) → IsTerm q → IsTerm t → WholeRules rules → WholeRules swapped → rules k ≡ rule t → swapped k ≡ rule q

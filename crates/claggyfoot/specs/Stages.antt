@@ -6,19 +6,20 @@ use Prim.Native.Nat.{ℕ, suc, _+_, _-_, _<_}
 use native.Mathlib.Omega.{arith}
 use borrow.Author.Tests.{eqb-true}
 use lib.Dec.{eqb}
-use lib.ListN.{length, drop}
+use lib.ListN.{length, take, drop}
 use Rattle.book.specs.declared.Added.{Added}
 use Rattle.book.specs.declared.Added.the-variants.{Taken, HeldAlready, BookFull, NoNodes}
 use Rattle.book.specs.Rules.{Held, nothing, rule, Rules, pickHeld, withoutRule, judged, after}
 use Rattle.book.specs.Memory.{Passing, rulesIn}
 use Rattle.commands.specs.Records.{Record}
 use Rattle.commands.specs.declared.reader.Command.{Command}
-use Rattle.commands.specs.declared.reader.Command.the-variants.{Add, Remove, Ask, Show, Room, Stops}
-use Rattle.commands.specs.Commands.{commandIn, termSize, stopOf}
-use Rattle.batch.specs.Effects.{Change, changed, changeOf, changeAt, Effect, does}
+use Rattle.commands.specs.declared.kinds.Act.{Act}
+use Rattle.commands.specs.declared.kinds.Act.the-variants.{Unknown, Add, Remove, Ask, Show, Room}
+use Rattle.commands.specs.Commands.{commandIn}
+use Rattle.batch.specs.Effects.{Change, changed, changeOf, changeAt, Effect, acts, does}
 use Rattle.batch.specs.Run.{Outcome, run}
 use Rattle.batch.specs.Promises.{Changes, Along, none, then}
-use Rattle.batch.specs.Laws.{rest, run-goes-on}
+use Rattle.batch.specs.Laws.{any-effect, rest, run-goes-on}
 
 -- Where a batch stands before a command: the cells used and the records written so far, the changes of the rules so far, the rules held, the cells
 -- to come and the room that is left.
@@ -47,9 +48,9 @@ onward s size e behind = record {
 -- The commands of a batch in turn: it begins, and it goes on after each command that doesn't stop it and whose record has room.
 pub data Reaches (rules : Rules) (cells : List ℕ) (room : ℕ) : Stage → Type 0 where
   start : Reaches rules cells room (begin rules cells room)
-  next : {s : Stage} {c : ℕ} {behind : List ℕ} → Reaches rules cells room s → s .cells ≡ c ∷ behind → stopOf (commandIn (c ∷ behind)) ≡ 0
+  next : {s : Stage} {c : ℕ} {behind : List ℕ} → Reaches rules cells room s → s .cells ≡ c ∷ behind → commandIn (c ∷ behind) .stop ≡ 0
       → length (does (s .rules) behind (commandIn (c ∷ behind)) .answer .cells) < s .room
-      → Reaches rules cells room (onward s (termSize (commandIn (c ∷ behind))) (does (s .rules) behind (commandIn (c ∷ behind))) behind)
+      → Reaches rules cells room (onward s (commandIn (c ∷ behind) .size) (does (s .rules) behind (commandIn (c ∷ behind))) behind)
 
 -- ---- what a batch comes to, from a stage on
 
@@ -64,7 +65,7 @@ pub reached : {rules : Rules} {cells : List ℕ} {room : ℕ} {s : Stage} → Re
 reached {rules} {cells} {room} start = let o = run rules cells room in same-outcome (o .stop) (o .rules) (let e : o .used ≡ 0 + o .used = omega arith in e) refl refl
 reached (next {s} {c} {behind} before is e l) =
     let x = does (s .rules) behind (commandIn (c ∷ behind)) in
-    let size = termSize (commandIn (c ∷ behind)) in
+    let size = commandIn (c ∷ behind) .size in
     let o = rest (s .rules) c behind (s .room) in
     reached before ∙ ap (λ (z : List ℕ). from s (run (s .rules) z (s .room))) is ∙ ap (from s) (run-goes-on (s .rules) c behind (s .room) l e)
     ∙ same-outcome (o .stop) (o .rules) (let u : s .used + (suc size + o .used) ≡ s .used + suc size + o .used = omega arith in u)
@@ -100,13 +101,15 @@ remove-applied rules k (rule t) e = refl
 
 -- What a command makes of the rules are its changes.
 pub does-applied : (rules : Rules) (behind : List ℕ) (c : Command) → does rules behind c .rules ≡ applied (does rules behind c .changes) rules
-unfolding does
-does-applied rules behind (Add number size) = add-applied (judged rules number _) rules number _
-does-applied rules behind (Remove number) = remove-applied rules number (rules number) refl
-does-applied rules behind (Ask kind size) = refl
-does-applied rules behind (Show number) = refl
-does-applied rules behind Room = refl
-does-applied rules behind (Stops refusal) = refl
+does-applied rules behind c = any-effect rules behind c (λ e. e .rules ≡ applied (e .changes) rules) (go (c .act) (c .number) (take (c .size) behind)) refl
+  where
+    go : (a : Act) (k : ℕ) (t : List ℕ) → acts a rules k t .rules ≡ applied (acts a rules k t .changes) rules
+    go Unknown k t = refl
+    go Add k t = add-applied (judged rules k t) rules k t
+    go Remove k t = remove-applied rules k (rules k) refl
+    go (Ask fq fr) k t = refl
+    go Show k t = refl
+    go Room k t = refl
 
 pub does-rules : (rules : Rules) (behind : List ℕ) (c : Command) → does rules behind c .changes ≡ [] → does rules behind c .rules ≡ rules
 does-rules rules behind c e = does-applied rules behind c ∙ ap (λ (cs : List Change). applied cs rules) e

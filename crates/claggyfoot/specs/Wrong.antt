@@ -17,7 +17,8 @@ use Rattle.book.specs.Facts.{empty-passes, empty-rules, nodes-in-use}
 use Rattle.questions.specs.Asking.{answers}
 use Rattle.commands.specs.Records.{Record, bare, good, written}
 use Rattle.batch.specs.Effects.{more, less, does}
-use Rattle.commands.specs.Commands.{commandOf}
+use Rattle.commands.specs.Kinds.{kindAt}
+use Rattle.commands.specs.Commands.{readBy}
 use Rattle.batch.specs.Run.{run, runFrom}
 use Rattle.batch.specs.Promises.{Changes, Along, Came, Runs, passing}
 use Rattle.batch.specs.Laws.{unchanged}
@@ -50,27 +51,27 @@ add-ask = 0x0005 ∷ 0x8000 ∷ 0x3000 ∷ 0x8000 ∷ []
 
 -- What is right for them.
 room-records : run noRules room 3 .records ≡ good (0 ∷ 0 ∷ []) ∷ []
-unfolding runFrom commandOf does each nodes
+unfolding runFrom readBy kindAt does each nodes
 room-records = refl
 
 room-stop : run noRules room 3 .stop ≡ 0
-unfolding runFrom commandOf does each nodes
+unfolding runFrom readBy kindAt does each nodes
 room-stop = refl
 
 add-rules : run noRules add 1 .rules ≡ withRule noRules 5 (0x8000 ∷ [])
-unfolding runFrom commandOf does each nodes readTerm readFrom takes
+unfolding runFrom readBy kindAt does each nodes readTerm readFrom takes
 add-rules = refl
 
 show-records : run noRules add-show 3 .records ≡ bare 0 ∷ good (0x8000 ∷ []) ∷ []
-unfolding runFrom commandOf does each nodes readTerm readFrom takes
+unfolding runFrom readBy kindAt does each nodes readTerm readFrom takes
 show-records = refl
 
 ask-records : run noRules add-ask 3 .records ≡ bare 0 ∷ good (5 ∷ []) ∷ []
-unfolding runFrom commandOf does each nodes readTerm readFrom takes answers
+unfolding runFrom readBy kindAt does each nodes readTerm readFrom takes answers
 ask-records = refl
 
 add-add-rules : run noRules add-add 2 .rules ≡ withRule (withRule noRules 5 (0x8000 ∷ [])) 6 (0x8000 ∷ [])
-unfolding runFrom commandOf does each nodes readTerm readFrom takes
+unfolding runFrom readBy kindAt does each nodes readTerm readFrom takes
 add-add-rules = refl
 
 -- ---- the wrong batches
@@ -131,7 +132,7 @@ unfolding each nodes
 two-nodes = refl
 
 add-remove-changes : run one-rule add-remove 2 .changes ≡ more 2 (0x0003 ∷ []) ∷ less 1 (0x0002 ∷ []) ∷ []
-unfolding runFrom commandOf does each nodes readTerm readFrom takes
+unfolding runFrom readBy kindAt does each nodes readTerm readFrom takes
 add-remove-changes = refl
 
 -- a set that has 0 is not empty, and below a larger number there are no fewer

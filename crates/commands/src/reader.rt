@@ -4,19 +4,20 @@ ghost use Prim.Native.Nat.{_+_, _<_};
 ghost use lib.ListN.{drop};
 ghost use Rattle.term.specs.Reading.{readTerm};
 ghost use Rattle.commands.specs.Reader.{cellIn, past};
-ghost use Rattle.commands.specs.Commands.{Add, Ask, withTerm, withNumber0, commandBy, commandIn};
+ghost use Rattle.commands.specs.Commands.{pickCommand, commandWith, isWrong, withTerm, commandBy, commandIn};
+use crate::kinds;
+use crate::kinds::Act;
+use crate::kinds::Kind;
 use term::reading;
 use term::reading::Reading;
 
-// A command: what to do, under which number, and how many cells its term has; or the refusal with which it stops the batch.
-pub enum Command {
-    Add(u16, usize),
-    Remove(u16),
-    // One of the four questions, by its kind.
-    Ask(u16, usize),
-    Show(u16),
-    Room,
-    Stops(u64),
+// A command as it was read: what to do, under which number, and how many of the cells behind its command cell are its term; and
+// the refusal with which it stops the batch, or 0.
+pub struct Command {
+    pub act: Act,
+    pub number: u16,
+    pub size: usize,
+    pub stop: u64,
 }
 
 // A cell, or the end of the cells.
@@ -45,26 +46,45 @@ fn place_past(cells: &[u16], at: usize) -> usize
     at
 }
 
-// The term of an add.
-fn add_at(cells: &[u16], at: usize, number: u16) -> Command
-    ensures { λ r. ⌜ r ≡ withTerm (Add number) (readTerm (drop at (now (cells .entry)))) ⌝ }
+// Refusal 2: the kind is unknown, or the number has to be 0 and is not.
+fn is_wrong(kind: Kind, number: u16) -> bool
+    ensures { λ r. ⌜ r ≡ isWrong kind number ⌝ }
 {
-    match reading::read(cells, at) {
-        Reading::Whole(size) => Command::Add(number, size),
-        Reading::Refused(fault, _) => Command::Stops(reading::refusal(fault)),
+    if !kind.known {
+        return true;
     }
+    if kind.zero {
+        return number != 0;
+    }
+    false
 }
 
-// The term of a question; its number has to be 0.
-fn ask_at(cells: &[u16], at: usize, kind: u16, number: u16) -> Command
-    ensures { λ r. ⌜ r ≡ withNumber0 number (withTerm (Ask kind) (readTerm (drop at (now (cells .entry))))) ⌝ }
+// A command of a known kind and number: its term is read where one follows.
+fn term_at(cells: &[u16], at: usize, kind: Kind, number: u16) -> Command
+    ensures { λ r. ⌜ r ≡ pickCommand (kind .term) (withTerm kind number (readTerm (drop at (now (cells .entry))))) (commandWith kind number 0 0) ⌝ }
 {
-    if number != 0 {
-        return Command::Stops(2);
+    let act = kind.act;
+    if !kind.term {
+        return Command {
+            act,
+            number,
+            size: 0,
+            stop: 0,
+        };
     }
     match reading::read(cells, at) {
-        Reading::Whole(size) => Command::Ask(kind, size),
-        Reading::Refused(fault, _) => Command::Stops(reading::refusal(fault)),
+        Reading::Whole(size) => Command {
+            act,
+            number,
+            size,
+            stop: 0,
+        },
+        Reading::Refused(fault, _) => Command {
+            act,
+            number,
+            size: 0,
+            stop: reading::refusal(fault),
+        },
     }
 }
 
@@ -73,29 +93,25 @@ fn command_of(next: Next, cells: &[u16], at: usize) -> Command
     ensures { λ r. ⌜ r ≡ commandBy next (drop at (now (cells .entry))) ⌝ }
 {
     let Next::Cell(c) = next else {
-        return Command::Stops(0);
+        return Command {
+            act: Act::Unknown,
+            number: 0,
+            size: 0,
+            stop: 0,
+        };
     };
-    let kind = c / 4096;
+    let kind = kinds::kind_of(c / 4096);
     let number = c % 4096;
-    if kind == 0 {
-        return add_at(cells, at, number);
+    if is_wrong(kind, number) {
+        let act = kind.act;
+        return Command {
+            act,
+            number,
+            size: 0,
+            stop: 2,
+        };
     }
-    if kind == 1 {
-        return Command::Remove(number);
-    }
-    if kind <= 5 {
-        return ask_at(cells, at, kind, number);
-    }
-    if kind == 6 {
-        return Command::Show(number);
-    }
-    if kind != 7 {
-        return Command::Stops(2);
-    }
-    if number != 0 {
-        return Command::Stops(2);
-    }
-    Command::Room
+    term_at(cells, at, kind, number)
 }
 
 // Cells and a place in them.

@@ -13,7 +13,8 @@ use Rattle.bits.specs.Numbers.{NumberSet, has}
 use Rattle.questions.specs.Asking.{numbers, answers}
 use Rattle.questions.specs.Promises.{Asked}
 use Rattle.questions.specs.Listing.{asked}
-use Rattle.commands.specs.Commands.{modeOf}
+use Rattle.term.specs.Questions.{Mode}
+use Rattle.commands.specs.Kinds.{modeOf}
 use Rattle.batch.specs.Effects.{asks}
 use Rattle.commands.specs.Writing.{no-room, cells-then}
 use Rattle.batch.proofs.Doing.{these, as-many, listed-are, never-many}
@@ -22,34 +23,37 @@ use Rattle.batch.proofs.records.ask.Tie as tie
 
 module _ (r : tie.After-mark-answers) where
   abbrev s : tie.Start
-  s = r .before .before .before .before .before .before .before .before .before .before .before .before
+  s = r .before .before .before .before .before .before .before .before .before .before
 
   abbrev marks : List ℕ
   marks = r .mark-answers .last .1 .1 .1 .1 .0
 
   abbrev fq : Bool
-  fq = r .before .before .before .fills-question .result
+  fq = s .args .fills-question
 
   abbrev fr : Bool
-  fr = r .before .before .fills-rule .result
+  fr = s .args .fills-rule
+
+  abbrev mode : Mode
+  mode = modeOf fq fr
 
   answering : Asked fq fr (s .args .book .now) (s .args .question .now) marks
-  answering = asked fq fr (s .args .book .now) (s .args .question .now) _ marks (r .before .before .before .before .before .before .empty .ensures .none) (r .mark-answers .ensures)
+  answering = asked fq fr (s .args .book .now) (s .args .question .now) _ marks (r .before .before .before .before .empty .ensures .none) (r .mark-answers .ensures)
 
   map : NumberSet marks
   map = r .mark-answers .ensures .map
 
-  answers-are : numbers (has marks) 4096 ≡ answers (modeOf (s .args .kind)) (s .args .question .now) (rulesIn (s .args .book .now))
-  answers-are = these (s .args .book .now) (s .args .question .now) marks (s .args .kind) fq fr (r .before .before .before .fills-question .ensures) (r .before .before .fills-rule .ensures) answering
+  answers-are : numbers (has marks) 4096 ≡ answers (mode) (s .args .question .now) (rulesIn (s .args .book .now))
+  answers-are = these (s .args .book .now) (s .args .question .now) marks fq fr answering
 
   few : length (numbers (has marks) 4096) ≤ 512
-  few = never-many (s .args .book .now) (s .args .question .now) marks (s .args .kind) fq fr (r .before .before .before .fills-question .ensures) (r .before .before .fills-rule .ensures) answering (s .pre .0)
+  few = never-many (s .args .book .now) (s .args .question .now) marks fq fr answering (s .pre .0)
 
 returns : tie.Need-returns
 returns c =
     let out = s (c .before .before .before .before .before) .args .out .now in
     let h = ltb-false (length (numbers (has (marks (c .before .before .before .before .before))) 4096)) (length out) (sym (c .before .has-room .ensures) ∙ not-true _ (c .if1 .taken)) in
-    no-room (asks (rulesIn (s (c .before .before .before .before .before) .args .book .now)) (s (c .before .before .before .before .before) .args .kind) (s (c .before .before .before .before .before) .args .question .now) .answer) out (subst (λ (n : ℕ). length out ≤ n) (ap length (answers-are (c .before .before .before .before .before))) h)
+    no-room (asks (rulesIn (s (c .before .before .before .before .before) .args .book .now)) (mode (c .before .before .before .before .before)) (s (c .before .before .before .before .before) .args .question .now) .answer) out (subst (λ (n : ℕ). length out ≤ n) (ap length (answers-are (c .before .before .before .before .before))) h)
 
 -- the list has room
 room : (e : tie.Else1) → length (numbers (has (marks (e .before .before .before .before .before))) 4096) < length (s (e .before .before .before .before .before) .args .out .now)
@@ -78,8 +82,8 @@ module _ (c : tie.After-slice-known5) where
   put-long : length put ≡ length out
   put-long = same-len-mid 1 (length out - 1) out (c .before .before .list .last .1 .0) (c .before .before .list .kept .1 .0)
 
-  count-is : c .before .before .list .result ≡ length (answers (modeOf (s a .args .kind)) (s a .args .question .now) (rulesIn (s a .args .book .now)))
-  count-is = as-many (s a .args .book .now) (s a .args .question .now) (marks a) (s a .args .kind) (fq a) (fr a) (a .before .before .before .fills-question .ensures) (a .before .before .fills-rule .ensures) (answering a) _ _ _ (c .before .before .list .ensures)
+  count-is : c .before .before .list .result ≡ length (answers (mode a) (s a .args .question .now) (rulesIn (s a .args .book .now)))
+  count-is = as-many (s a .args .book .now) (s a .args .question .now) (marks a) (fq a) (fr a) (answering a) _ _ _ (c .before .before .list .ensures)
 
   low : c .before .before .list .result ≤ 512
   low = let h = few a in omega (arith, c .before .before .list .ensures .count)
@@ -104,9 +108,9 @@ returns-2 c =
     let t = s (a c) in
     let m = count-is c in
     let n = c .before .before .list .result in
-    cells-then (asks (rulesIn (t .args .book .now)) (t .args .kind) (t .args .question .now) .answer) n (first n _ m) (out c) (c .before .before .list .last .1 .0) (length (out c) - 1) (n + 1)
+    cells-then (asks (rulesIn (t .args .book .now)) (mode (a c)) (t .args .question .now) .answer) n (first n _ m) (out c) (c .before .before .list .last .1 .0) (length (out c) - 1) (n + 1)
     (subst (λ (k : ℕ). k < length (out c)) (ap length (answers-are (a c))) (room (c .before .before .before .before .before))) refl (ap (λ (j : ℕ). j + 1) m)
-    (listed-are (t .args .book .now) (t .args .question .now) (marks (a c)) (t .args .kind) (fq (a c)) (fr (a c)) (a c .before .before .before .fills-question .ensures) (a c .before .before .fills-rule .ensures) (answering (a c)) _ _ _ (c .before .before .list .ensures))
+    (listed-are (t .args .book .now) (t .args .question .now) (marks (a c)) (fq (a c)) (fr (a c)) (answering (a c)) _ _ _ (c .before .before .list .ensures))
   where
     first : (n k : ℕ) → n ≡ k → n ≡ 4096 * 0 + k
     first n k e = omega arith
@@ -116,9 +120,7 @@ ask-spec =
     tie.close
     (tie.spec
     (λ c κs. search needs)
-    (λ c κs. search needs)
-    (λ c κs. search needs)
-    (λ c κs. let s = c .before .before .before .before .before .before .before .before .before .before .before in (s .pre .0, (s .pre .1 .1 .0, c .before .before .before .before .before .empty .ensures .is-set)))
+    (λ c κs. let s = c .before .before .before .before .before .before .before .before .before in (s .pre .0, (s .pre .1 .0, c .before .before .before .empty .ensures .is-set)))
     (λ c κs. (map (c .before .before .before), few (c .before .before .before)))
     (λ c. search needs)
     returns

@@ -251,7 +251,7 @@ module _ {M : Type 1} (𝓤 : URA M) (H : Heap 𝓤) (A : Atoms 𝓤) (W : Given
         split ! $ move ! (1 ∷ []) $ use1 W (raw (fact 𝓤 (Says r u m w t))) (core-said r u m w t) $ heard ! (Says r u m w t) (λ e. split ! $ move ! (1 ∷ []) $
         -- the result; the lifetime's; the reader's; then the locals
         peeks ! S.the-row (Is S.the-row) (shows 𝓤 H A S.the-row) t (x ∷ []) (λ is₂.
-        land ! (from ! (stop !)) (init ! 17 refl (EL.lawful S.the-type S′.the-laws 𝓤 H A W tt .typed t _ is₂ .0)) $
+        land ! (from ! (stop !)) (init ! 17 refl (LL.lawful S.the-type S′.the-laws 𝓤 H A W .typed t _ is₂ .0)) $
         returns ! (look ! 17 refl) $ forget ! 3 refl $ forget ! 5 refl $ forget ! 7 refl $ forget ! 9 refl $ forget ! 11 refl $ forget ! 13 refl $ forget ! 15 refl $ forget ! 17 refl $
         move ! (17 ∷ 18 ∷ []) $ free1 ! $ move ! (15 ∷ 16 ∷ []) $ free1 ! $ move ! (13 ∷ 14 ∷ []) $ free1 ! $ move ! (11 ∷ 12 ∷ []) $ free1 ! $ move ! (9 ∷ 10 ∷ []) $ free1 ! $ move ! (7 ∷ 8 ∷ []) $ free1 ! $ move ! (5 ∷ 6 ∷ []) $ free1 ! $
         move ! (3 ∷ 4 ∷ []) $ free1 ! $ free0 ! $ by ! (exits t x (said-so d m r t cell-is moved-is e))))))))))))))))))))))
