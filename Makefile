@@ -13,7 +13,7 @@ endif
 
 .PHONY: run test prove archive session rust examples soak bench fmt
 
-# A session in words, and as the session program prints it: the paper's, or another: make run CELLS=examples/lamp.cells
+# A session in words, and as the session program prints it: the reference's, or another: make run CELLS=examples/lamp.cells
 run: session
 	@$(SHOW) '$(CELLS)'
 

@@ -1,4 +1,4 @@
--- A batch: its commands in turn. 01, 'Commands and records' and what stands below the table of refusals.
+-- A batch: its commands in turn. Reference 8.
 use mathlib.Core.List.{List, [], _∷_, _++_}
 use mathlib.Core.Bool.{Bool, true, false}
 use Prim.Native.Nat.{ℕ, zero, suc, _+_, _-_}

@@ -1,4 +1,4 @@
--- The rules that a book holds, and what the paper counts of them: 01, 'The book' and refusals 6 to 9.
+-- The rules that a book holds, and what is counted of them: Reference 5, and refusals 6 to 9.
 use mathlib.Core.List.{List, [], _∷_, _++_}
 use mathlib.Core.Bool.{Bool, true, false}
 use Prim.Native.Nat.{ℕ, zero, suc, _+_}
@@ -57,7 +57,7 @@ ruleCount rules = length (terms rules)
 abbrev pub nodesOf : Rules → ℕ
 nodesOf rules = nodeCount (terms rules)
 
--- The paper's number of each answer to an add.
+-- The refusal number of each answer to an add.
 abbrev pub addRefusal : Added → ℕ
 addRefusal Taken = 0
 addRefusal HeldAlready = 6
@@ -82,7 +82,7 @@ after HeldAlready rules k term = rules
 after BookFull rules k term = rules
 after NoNodes rules k term = rules
 
--- A remove of what stands under a number, and the paper's number of its answer.
+-- A remove of what stands under a number, and the refusal number of its answer.
 abbrev pub removal : Held → Removed
 removal nothing = NotHeld
 removal (rule t) = Gone

@@ -1,4 +1,4 @@
--- The promises of the calls in the paper's numbers, where a call below answers an enum or a bool.
+-- The promises of the calls in the reference's numbers, where a call below answers an enum or a bool.
 use mathlib.Core.Path.{_≡_, sym, ap, _∙_}
 use mathlib.Core.List.{List}
 use Prim.Native.Nat.{ℕ}

@@ -1,4 +1,4 @@
--- What a command says: 01, 'Commands and records' and 'Refusal numbers'.
+-- What a command says: Reference 6, 7 and 9.
 use mathlib.Core.Path.{_≡_}
 use mathlib.Core.List.{List, [], _∷_}
 use mathlib.Core.Bool.{Bool, true, false, not}

@@ -1,4 +1,4 @@
--- The table of kinds: 01, 'Commands and records', a line a kind. All that is read and refused by the kind of a command goes by its row alone.
+-- The table of kinds: Reference 6, a line a kind. All that is read and refused by the kind of a command goes by its row alone.
 use mathlib.Core.Path.{_≡_, refl, sym, subst}
 use mathlib.Core.List.{List, [], _∷_}
 use mathlib.Core.Bool.{Bool, true, false, not}

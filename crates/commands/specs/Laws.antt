@@ -46,7 +46,7 @@ right-number kind number e (inr x) = true≢false (x .0) (any-number kind e .1)
 
 -- ---- a term at fault
 
--- The term is at fault, with a number of the paper.
+-- The term is at fault, with this refusal.
 abbrev pub FaultIs : (refusal : ℕ) → List ℕ → Type 0
 FaultIs refusal behind = (fault : Fault) × (place : ℕ) × (readTerm behind ≡ Refused fault place) × (refusalOf fault ≡ refusal)
 

@@ -1,4 +1,4 @@
--- Records as cells: 01, 'Commands and records'.
+-- Records as cells: Reference 7.
 use mathlib.Core.List.{List, [], _∷_, _++_}
 use Prim.Native.Nat.{ℕ, _+_, _*_}
 use lib.ListN.{length}

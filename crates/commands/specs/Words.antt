@@ -1,4 +1,4 @@
--- The table of kinds in 01's words: kinds 2 to 5 and 7 need number 0, 0 and 2 to 5 are followed by a term, from 8 on there are none.
+-- The table of kinds in the reference's words (6): kinds 2 to 5 and 7 need number 0, 0 and 2 to 5 are followed by a term, from 8 on there are none.
 use mathlib.Core.Path.{_≡_, refl, sym, ap, _∙_}
 use mathlib.Core.Logic.{_⊎_, inl, inr, _↔_}
 use mathlib.Core.Bool.{Bool, true, false}

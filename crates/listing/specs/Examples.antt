@@ -1,4 +1,4 @@
--- Small examples, by computation: digits, cells, and lines of the listing in 01.
+-- Small examples, by computation: digits, cells, and lines of the listing in Reference 11.
 use mathlib.Core.Path.{_≡_, refl}
 use mathlib.Core.List.{[], _∷_}
 use Rattle.listing.specs.Listing.{digits, decimal, hexCell, hexCells, recordLine, cellsIn}

@@ -1,4 +1,4 @@
--- What the session program prints, and how it reads cells: 01, 'The session program'.
+-- What the session program prints, and how it reads cells: Reference 11.
 use mathlib.Core.List.{List, [], _∷_, _++_}
 use Prim.Native.Nat.{ℕ, zero, suc, _+_, _*_, _/_, _%_}
 use Rattle.deciding.specs.Deciding.{pick}

@@ -1,4 +1,4 @@
--- What the calls on a table promise: 01, 'Names' and refusals 1, 11, 12 and 13.
+-- What the calls on a table promise: Reference 10, and refusals 1, 11, 12 and 13.
 use mathlib.Core.Path.{_≡_}
 use mathlib.Core.List.{List, []}
 use Prim.Native.Nat.{ℕ, _+_, _*_, _≤_, _<_}
@@ -24,7 +24,7 @@ abbrev pub Checks : List ℕ → Check → Type 0
 Checks table Fails = Passes table → ⊥
 Checks table (Good held free) = Counts table held free
 
--- The paper's refusal and number for each answer of `enter`.
+-- The refusal and the number for each answer of `enter`.
 abbrev pub entryRefusal : Entry → ℕ
 entryRefusal (Held k) = 0
 entryRefusal (New k) = 0
@@ -60,7 +60,7 @@ pub data Enters (before name : List ℕ) (answer : Entry) (after : List ℕ) : T
   entered : {names : List (List ℕ)} {free : ℕ} → Holds before names free → answer ≡ entryIn names free name → after ≡ tableAfter before name answer → Enters before name answer after
   no-table : (Passes before → ⊥) → answer ≡ NoTable → after ≡ before → Enters before name answer after
 
--- The paper's refusal, and where in the table the name stands, for each answer of `place_of`; refused, 0 bytes from byte 0.
+-- The refusal, and where in the table the name stands, for each answer of `place_of`; refused, 0 bytes from byte 0.
 abbrev pub placeRefusal : Place → ℕ
 placeRefusal (At start size) = 0
 placeRefusal BadTable = 1

@@ -1,4 +1,4 @@
--- Both sides of the line, from 01: names that are taken and refused, and the empty table.
+-- Cases on both sides of the line: names that are taken and refused, and the empty table.
 use mathlib.Core.Path.{_≡_, refl}
 use mathlib.Core.List.{List, [], _∷_}
 use Prim.Native.Nat.{ℕ, _-_, _*_, _≤_, _<_}

@@ -1,4 +1,4 @@
--- What the crate's contracts mean. `Name`, `Table` and `Calls` are the paper's words, and `Examples` tries them. The modules
+-- What the crate's contracts mean. `Name`, `Table` and `Calls` are the reference's words, and `Examples` tries them. The modules
 -- after these change no meaning: `Cases`, `Slots`, `Once` and `Entering` are laws, `Leaves` what the functions below the calls promise.
 pub mod Name
 pub mod Table

@@ -1,4 +1,4 @@
--- What a name is: 01, refusal 11. A space is a character, and nothing is trimmed.
+-- What a name is: Reference 10.2. A space is a character, and nothing is trimmed.
 use mathlib.Core.Path.{_≡_}
 use mathlib.Core.List.{List, [], _∷_}
 use mathlib.Core.Bool.{Bool, true, false}

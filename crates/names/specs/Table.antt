@@ -1,4 +1,4 @@
--- What a table is: 01, 'Names'. A table is its used slots, a name in each, and then free slots; a name's number is its slot.
+-- What a table is: Reference 10.1. A table is its used slots, a name in each, and then free slots; a name's number is its slot.
 use mathlib.Core.Path.{_≡_}
 use mathlib.Core.List.{List, [], _∷_, _++_}
 use Prim.Native.Nat.{ℕ, suc, _+_, _-_, _*_, _≤_, _<_}

@@ -41,7 +41,7 @@ pub enum Place {
     NoNumber,
 }
 
-// The paper's refusal and number of an answer.
+// The refusal and the number of an answer.
 pub fn entry_refusal(entry: Entry) -> u64
     ensures { λ r. ⌜ r ≡ entryRefusal entry ⌝ }
 {

@@ -1,4 +1,4 @@
--- What the program prints for its input: 01, 'The session program'.
+-- What the program prints for its input: Reference 11.
 use mathlib.Core.List.{List}
 use Prim.Native.Nat.{ℕ, _%_}
 use lib.Dec.{ltb, eqb}

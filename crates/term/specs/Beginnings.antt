@@ -1,4 +1,4 @@
--- The node count of a set of rules: the number of different non-empty beginnings of their blank forms (01, 'The book').
+-- The node count of a set of rules: the number of different non-empty beginnings of their blank forms (Reference 5.2).
 -- Over any kind of cell with a test for being the same, since the tree in memory has its cells as numbers.
 use mathlib.Core.Path.{_≡_}
 use mathlib.Core.List.{List, [], _∷_, _++_, map, List·Memᴰ}

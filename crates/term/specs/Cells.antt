@@ -1,4 +1,4 @@
--- Cells, rows and terms: 01, 'Cells'.
+-- Cells, rows and terms: Reference 2 and 3.
 use mathlib.Core.List.{List, [], _∷_, map}
 use mathlib.Core.Bool.{Bool, true, false}
 use Prim.Native.Nat.{ℕ, zero, suc, _+_, _-_, _/_, _<_}

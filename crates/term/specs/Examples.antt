@@ -1,4 +1,4 @@
--- The eleven cases that 01 marks P under 'Both sides of the line', as rows of one table that one statement covers.
+-- The eleven proved cases of Reference 13, as rows of one table that one statement covers.
 use mathlib.Core.Path.{_≡_, ap, subst}
 use mathlib.Core.List.{List, [], _∷_}
 use mathlib.Core.Bool.{Bool, true, false, not}

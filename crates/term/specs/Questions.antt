@@ -1,4 +1,4 @@
--- The four questions: 01, 'The four questions', line by line. These four lines are what demand 2 means.
+-- The four questions: Reference 4, line by line. These four lines are what demand 2 means.
 use mathlib.Core.Path.{_≡_}
 use mathlib.Core.List.{[], _∷_, _++_}
 use Prim.Native.Nat.{ℕ, suc}

@@ -1,4 +1,4 @@
--- Reading a term from cells: 01, 'Cells' and refusals 3, 4 and 5.
+-- Reading a term from cells: Reference 3.
 use mathlib.Core.List.{List, [], _∷_}
 use mathlib.Core.Bool.{Bool, true, false}
 use Prim.Native.Nat.{ℕ, zero, suc, _+_, _-_, _/_}
@@ -10,7 +10,7 @@ pub use Rattle.term.specs.declared.reading.Taken.the-variants.{Wants, Fa
 pub use Rattle.term.specs.declared.reading.Reading.{Reading}
 pub use Rattle.term.specs.declared.reading.Reading.the-variants.{Whole, Refused}
 
--- The paper's number of each fault. The three faults of a variable have one number.
+-- The refusal number of each fault. The three faults of a variable have one number.
 abbrev pub refusalOf : Fault → ℕ
 refusalOf TooLong = 5
 refusalOf CutShort = 3
@@ -40,7 +40,7 @@ goOn (Wants arity known) place next = next arity known
 goOn (Faulty fault) place next = Refused fault place
 
 -- So many cells may still be read and so many subterms are wanted; so many variables are known and cells read. At each
--- place the faults come in the paper's order: too long (5), cut short (3), a variable at fault (4).
+-- place the faults come in the order: too long (5), cut short (3), a variable at fault (4).
 unfoldable pub readFrom : (left wanted known place : ℕ) → List ℕ → Reading
 readFrom zero zero known place cells = Whole place
 readFrom zero (suc wanted) known place cells = Refused TooLong place

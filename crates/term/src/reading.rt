@@ -30,7 +30,7 @@ pub enum Reading {
     Refused(Fault, usize),
 }
 
-// The paper's number of a fault.
+// The refusal number of a fault.
 pub fn refusal(fault: Fault) -> u64
     ensures { λ r. ⌜ r ≡ refusalOf fault ⌝ }
 {

@@ -84,7 +84,7 @@ pub fn room(book: &mut [u64]) -> RoomLeft {
     }
 }
 
-/// Asks a question of the paper's kind 2, 3, 4 or 5; the numbers of the rules that answer stand in `out`, from the second
+/// Asks a question of the reference's kind 2, 3, 4 or 5; the numbers of the rules that answer stand in `out`, from the second
 /// cell on.
 pub fn ask(book: &mut [u64], kind: u64, question: &[u16], out: &mut [u16]) -> RulesListed {
     let (refusal, count) = one(book, &[&[head(kind, 0)], question].concat(), out);

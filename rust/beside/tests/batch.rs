@@ -20,7 +20,7 @@ const GENERALISATIONS: u16 = 0x4000;
 const UNIFIABLES: u16 = 0x5000;
 const ROOM: u16 = 0x7000;
 
-/// The paper's example.
+/// The reference's example.
 const EXAMPLE: [u16; 27] = [
     0x0005, 0x2001, 0x0002, 0x8000, 0x0009, 0x2001, 0x8000, 0x8000, 0x0002, 0x2001, 0x1004, 0x0003,
     0x0003, 0x4000, 0x2001, 0x0002, 0x0003, 0x3000, 0x2001, 0x8000, 0x8001, 0x1005, 0x1005, 0x7000,
@@ -71,7 +71,7 @@ fn full_of_rules() -> Both {
 }
 
 #[test]
-fn the_papers_example() {
+fn the_references_example() {
     let mut both = Both::empty();
     let answer = both.run(&EXAMPLE, 4_096);
     let out = vec![0, 0, 0, 2, 5, 9, 3, 2, 5, 9, 0, 0x7000, 2, 2, 6, 0x3000];
@@ -81,7 +81,7 @@ fn the_papers_example() {
 }
 
 #[test]
-fn every_room_for_the_papers_example() {
+fn every_room_for_the_references_example() {
     for room in 0..=20 {
         let mut both = Both::empty();
         let answer = both.run(&EXAMPLE, room);
@@ -91,7 +91,7 @@ fn every_room_for_the_papers_example() {
 }
 
 #[test]
-fn pairs_of_the_paper() {
+fn pairs_of_the_reference() {
     assert!(lists(GENERALISATIONS, &[F, X, Y], &[F, A, B]));
     assert!(lists(GENERALISATIONS, &[F, X, B], &[F, G, B, B]));
     assert!(lists(UNIFIABLES, &[F, X, B], &[F, A, X]));
@@ -107,7 +107,7 @@ fn pairs_of_the_paper() {
 }
 
 #[test]
-fn terms_of_the_paper() {
+fn terms_of_the_reference() {
     let mut both = Both::after(&[0, F, X, Y, 1, F, G, B, B]);
     assert_eq!(record(&mut both, ROOM, &[]), [2, 2, 6]);
     assert_eq!(record(&mut both, 2, &[F, A]), [0x3000]);

@@ -333,7 +333,7 @@ fn the_book_drawn_in_the_docs() {
 }
 
 #[test]
-fn the_node_count_of_the_paper() {
+fn the_node_count_of_the_reference() {
     let mut pair = Pair::empty();
     pair.add(0, &[0x2001, 0x8000, 0x8000]);
     pair.add(1, &[0x2001, 0x1004, 0x0003, 0x0003]);

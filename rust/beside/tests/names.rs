@@ -37,7 +37,7 @@ fn refusal(table: &[u8], name: &[u8]) -> u64 {
 }
 
 #[test]
-fn cases_of_the_paper() {
+fn cases_of_the_reference() {
     let table = table_of(3, &[b"dark cave"]);
     assert_eq!(refusal(&table, b"cave "), 11);
     assert_eq!(refusal(&table, b" "), 11);

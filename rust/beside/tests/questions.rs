@@ -8,7 +8,7 @@ use model::questions::Question;
 use model::random::{damaged, term_cells, Random};
 use model::term::Term;
 
-/// The paper's kinds and their questions.
+/// The reference's kinds and their questions.
 const KINDS: [(u64, Question); 4] = [
     (2, Question::Variants),
     (3, Question::Instances),

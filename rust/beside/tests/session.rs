@@ -10,7 +10,7 @@ use beside::shapes::times;
 use model::random::{commands, row, Random};
 use model::session::listing;
 
-/// The paper's example.
+/// The reference's example.
 const EXAMPLE: [u16; 27] = [
     0x0005, 0x2001, 0x0002, 0x8000, 0x0009, 0x2001, 0x8000, 0x8000, 0x0002, 0x2001, 0x1004, 0x0003,
     0x0003, 0x4000, 0x2001, 0x0002, 0x0003, 0x3000, 0x2001, 0x8000, 0x8001, 0x1005, 0x1005, 0x7000,
@@ -61,7 +61,7 @@ fn bytes(cells: &[u16]) -> Vec<u8> {
 }
 
 #[test]
-fn the_papers_listing() {
+fn the_references_listing() {
     let found = alike(&bytes(&EXAMPLE));
     let wanted = "no refusal count cells\n\
                   1 0 0\n\

@@ -72,7 +72,7 @@ pub enum Stop {
 }
 
 impl Stop {
-    /// The paper's stop number.
+    /// The reference's stop number.
     pub fn number(self) -> u16 {
         match self {
             Stop::Done => 0,
@@ -153,7 +153,7 @@ mod tests {
     use super::*;
     use crate::random::{commands, Random};
 
-    /// Runs on a book and gives the paper's numbers.
+    /// Runs on a book and gives the reference's numbers.
     fn numbers(book: &mut Book, cells: &[u16], room: usize) -> (u16, usize, Vec<u16>) {
         let answer = run(book, cells, room);
         (answer.stop.number(), answer.used, answer.out)

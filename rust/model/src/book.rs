@@ -1,6 +1,6 @@
 //! The book: a set of rules, each a number with a term, and what can be asked of it.
 //!
-//! The paper leaves the book's inside open and fixes the set, so here the set is all there is. The lent memory, its
+//! The reference leaves the book's inside open and fixes the set, so here the set is all there is. The lent memory, its
 //! check and refusal 1 have no part in the model: this book is one that passes.
 
 use std::collections::{BTreeMap, HashSet};
@@ -22,7 +22,7 @@ pub enum Refusal {
 }
 
 impl Refusal {
-    /// The paper's refusal number.
+    /// The reference's refusal number.
     pub fn number(self) -> u16 {
         match self {
             Refusal::Held => 6,

@@ -22,7 +22,7 @@ pub enum Refusal {
 }
 
 impl Refusal {
-    /// The paper's refusal number.
+    /// The reference's refusal number.
     pub fn number(self) -> u16 {
         match self {
             Refusal::Table => 1,

@@ -1,6 +1,6 @@
 //! The four questions over blank forms, every `*` filled on its own by any blank form.
 //!
-//! Each relation is the paper's "some filling of .. gives ..": a blank form is a tree, a filling is a list with a tree
+//! Each relation is the reference's "some filling of .. gives ..": a blank form is a tree, a filling is a list with a tree
 //! for each blank in reading order, and a relation holds when such a filling can be given.
 
 use crate::term::{Mark, Symbol, Term};
@@ -197,7 +197,7 @@ mod tests {
             .collect()
     }
 
-    /// The paper's words tried out: a form of three cells can only meet another by fillings of at most three cells.
+    /// The reference's words tried out: a form of three cells can only meet another by fillings of at most three cells.
     #[test]
     fn the_relations_are_what_trying_all_fillings_finds() {
         let pool = small_forms();

@@ -64,7 +64,7 @@ impl Mark {
     }
 }
 
-/// Why no term could be read. The three causes of refusal 4 are kept apart, since the paper lists them apart.
+/// Why no term could be read. The three causes of refusal 4 are kept apart, since the reference lists them apart.
 #[derive(Clone, Copy, PartialEq, Eq, Hash, Debug)]
 pub enum Cause {
     /// 32 cells read, a subterm still wanted.
@@ -80,7 +80,7 @@ pub enum Cause {
 }
 
 impl Cause {
-    /// The paper's refusal number.
+    /// The reference's refusal number.
     pub fn number(self) -> u16 {
         match self {
             Cause::TooLong => 5,
@@ -100,7 +100,7 @@ pub struct Fault {
 }
 
 impl Fault {
-    /// The paper's refusal number.
+    /// The reference's refusal number.
     pub fn number(self) -> u16 {
         self.cause.number()
     }

@@ -1,4 +1,4 @@
--- Each test is a refusal of the paper, in its order; past them the nodes are planted, the rule hangs and the record is put.
+-- Each test is a refusal, in their order; past them the nodes are planted, the rule hangs and the record is put.
 use mathlib.Core.Path.{_≡_, sym, ap, _∙_, subst}
 use mathlib.Core.List.{List, _++_}
 use Prim.Native.Nat.{ℕ, _+_, _-_, _≤_}

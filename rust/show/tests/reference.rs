@@ -1,4 +1,4 @@
-//! The paper's session, as examples/session.cells has it.
+//! The reference's session, as examples/session.cells has it.
 
 use std::fs;
 use std::path::{Path, PathBuf};
@@ -26,7 +26,7 @@ fn same_bytes() {
     assert_eq!(bytes, stdin);
 }
 
-/// The words for the listing that the paper prints.
+/// The words for the listing that the reference prints.
 #[test]
 fn in_words() {
     let session = file::read(&text("examples/session.cells")).expect("cells");
