@@ -42,7 +42,7 @@ use Rattle.batch.specs.Laws.{does-act, unchanged}
 use Rattle.claggyfoot.specs.Stages.{Stage, onward, does-rules, MemoryAt}
 use Rattle.claggyfoot.specs.Calls.{Exactly, Call, Kept, CameTo, effectOf, sizeOf, Idle, StopsHere, Answered, Ended, GoneOn, RefusedOn, StoppedBy, NodesTaken}
 use Rattle.claggyfoot.specs.Refusals.{Adds-term, Names-rule, Held-already, StopNumber, Ends, six, eight, nine, not-held, goes-on-with, batch-ends}
-use Rattle.claggyfoot.specs.AtCommand.{limits, answered, stops-exactly, refused-exactly, ten, gone-on, fault-exactly, add-exactly, nodes-taken, idle, idle-stays, idle-keeps}
+use Rattle.claggyfoot.specs.AtCommand.{memory, limits, answered, stops-exactly, refused-exactly, ten, gone-on, fault-exactly, add-exactly, nodes-taken, idle, idle-stays, idle-keeps}
 use Rattle.claggyfoot.specs.Naming.{Gave, Told, enter-1, enter-11, enter-12, enter-held, enter-new, name-of-1, name-of-13, name-of-held}
 use Rattle.claggyfoot.specs.Numbers.{EntersNumbers, StandsNumbers, ChecksNumber, passing as passing-number, failing}
 pub use Rattle.claggyfoot.specs.Numbers.{enters-numbers-once, stands-numbers-once, checks-number-once}
@@ -136,6 +136,10 @@ module _ {call : Call} {s : Stage} {c : ℕ} {behind : List ℕ} (at : CameTo ca
   -- A command that is not refused: its record is the one that `does` says, the rules after it too, and the batch goes on.
   pub not-refused : Exactly (Answered call s 0) ((length (effectOf s c behind .answer .cells) < s .room) × (effectOf s c behind .answer .refusal ≡ 0)) (GoneOn call s (effectOf s c behind .answer) (onward s size (effectOf s c behind) behind))
   not-refused = (answered at 0, λ x. gone-on at (x .0) (goes-on-with (s .rules) kind number (omega arith) behind 0 (λ y. let a = y .0 in omega arith) (x .1)))
+
+  -- At each command there is a memory: it passes, holds the rules of the stage, and lies on the way from the book before the call to the book after it.
+  pub memory-there : (m : List ℕ) × MemoryAt (call .book) (call .book′) s m
+  memory-there = memory at
 
   -- A refused command never changes the book, nor does one of kind 2 to 7: the same rules ..
   pub refused-never-changes : Idle s c behind → effectOf s c behind .rules ≡ s .rules
