@@ -204,14 +204,7 @@ decides unifiables q r wq wr = let e = machine true true 1 q r wq wr in (
   λ a. e .1 (unify (length q) 1 q r (fill (a .1) 0 r) (omega arith) wq wr (subst (λ (s : Row Blank). Fill q s) (a .2) (of-filling (a .0) 0 q)) (of-filling (a .1) 0 r)),
 )
 
--- A rule is a generalisation of a pattern exactly when that pattern, were it the rule, is an instance of it: by the meaning ..
+-- A rule is a generalisation of a pattern exactly when that pattern, were it the rule, is an instance of it.
 pub other-way : (q r : Row Blank) → Answers generalisations q r ↔ Answers instances r q
 unfolding Answers
 other-way q r = (λ a. a, λ a. a)
-
--- .. and so by the machine.
-pub other-way-machine : (q r : Row Blank) → Terms 1 q → Terms 1 r → T (accepts generalisations q r) ↔ T (accepts instances r q)
-other-way-machine q r wq wr = (
-  λ h. decides instances r q wr wq .1 (other-way q r .0 (decides generalisations q r wq wr .0 h)),
-  λ h. decides generalisations q r wq wr .1 (other-way q r .1 (decides instances r q wr wq .0 h)),
-)

@@ -120,11 +120,7 @@ pub grown-tree : {m₀ m : Shape} {l₀ l : ℕ} {r : List ℕ} → Tree m₀ �
 grown-tree t none = t
 grown-tree t (more {m = m} {m′ = m′} {c = c} {n = n} s g lo so o k) = link-tree m m′ s c n (grown-tree t g) so k
 
--- the rows stay, and the chain's last link has its own
-pub grown-old : {m₀ m : Shape} {l₀ l : ℕ} {r : List ℕ} → Tree m₀ → Grown m₀ l₀ r m l → {x : ℕ} {q : List ℕ} → Up m₀ x q → Up m x q
-grown-old t none u = u
-grown-old t (more {m = m} {m′ = m′} {c = c} {n = n} s g lo so o k) u = link-old m m′ s c n (grown-tree t g) so k (grown-old t g u)
-
+-- the chain's last link has its own row
 pub grown-up : {m₀ m : Shape} {l₀ l : ℕ} {r q : List ℕ} → Tree m₀ → Grown m₀ l₀ r m l → Up m₀ l₀ q → Up m l (r ++ q)
 grown-up t none u = u
 grown-up {q = q} t (more {r = r} {m = m} {m′ = m′} {c = c} {n = n} s g lo so o k) u =

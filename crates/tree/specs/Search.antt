@@ -1,14 +1,13 @@
 -- A search over the unfolded tree that keeps a state: it finds exactly the used nodes whose row is accepted
 use mathlib.Core.Path.{_≡_, refl, sym, ap, _∙_, subst}
 use mathlib.Core.Logic.{_⊎_, inl, inr}
-use mathlib.Core.List.{List, [], _∷_, _++_, map, append-assoc, reverse, reverse-cons, List·Memᴰ, List·Memᴰ·head, List·Memᴰ·tail, List·Memᴰ·cases-cons, List·Memᴰ·append-cases, List·Memᴰ·not-nil, Memᴰ·append-left, Memᴰ·append-right, Memᴰ·cast, Memᴰ·map}
+use mathlib.Core.List.{List, [], _∷_, _++_, append-assoc, reverse, reverse-cons, List·Memᴰ, List·Memᴰ·head, List·Memᴰ·tail, List·Memᴰ·cases-cons, List·Memᴰ·append-cases, List·Memᴰ·not-nil, Memᴰ·append-left, Memᴰ·append-right, Memᴰ·cast}
 use mathlib.Core.Bool.{Bool, true, false}
 use Prim.Native.Nat.{ℕ, suc, _+_}
 use native.Mathlib.Omega.{arith}
-use Rattle.term.specs.Beginnings.{Distinct}
 use Rattle.tree.specs.Shape.{Shape, Up, Tree}
 use Rattle.tree.specs.Trie.{Trie, tip, node, trie, rows, Bounded}
-use Rattle.tree.specs.Unfolded.{holds, node-once}
+use Rattle.tree.specs.Unfolded.{holds}
 
 abbrev pub keep : Bool → ℕ → List ℕ
 keep true n = n ∷ []
@@ -84,16 +83,6 @@ module _ {S : Type 0} (step : ℕ → S → S) (good : S → Bool) where
       Memᴰ·append-left (accepted s xs) (Memᴰ·cast (ap (λ (z : ℕ × List ℕ). z .0) e) (keeps (good (after-row s (x .1))) (x .0) (ap (λ (z : ℕ × List ℕ). good (after-row s (z .1))) (sym e) ∙ h)))
   to-accepted s (x ∷ xs) n r (List·Memᴰ·tail i) h = Memᴰ·append-right (keep (good (after-row s (x .1))) (x .0)) (to-accepted s xs n r i h)
 
-  -- what is accepted stands no more than once
-  accepted-distinct : (s : S) (l : List (ℕ × List ℕ)) → Distinct (map (λ x. x .0) l) → Distinct (accepted s l)
-  unfolding accepted
-  accepted-distinct s [] d = tt
-  accepted-distinct s (x ∷ xs) d = put (good (after-row s (x .1))) (accepted-distinct s xs (d .1))
-    where
-      put : (b : Bool) → Distinct (accepted s xs) → Distinct (keep b (x .0) ++ accepted s xs)
-      put true e = ((λ i. let q = of-accepted s xs (x .0) i in d .0 (Memᴰ·map (λ y. y .0) (q .1))), e)
-      put false e = e
-
   module _ (m : Shape) (t : Tree m) (b : Bounded m) (s : S) where
     abbrev pub found : List ℕ
     found = hits m s (trie m (m .first 0))
@@ -108,6 +97,3 @@ module _ {S : Type 0} (step : ℕ → S → S) (good : S → Bool) where
     good-found n r up h =
         subst (λ (l : List ℕ). List·Memᴰ n l) (sym (hits-are m s [] (trie m (m .first 0))))
         (to-accepted s (rows m [] (trie m (m .first 0))) n r (holds m t b n r .1 up) (ap good (after-run s r) ∙ h))
-
-    pub found-once : Distinct found
-    found-once = subst (λ (l : List ℕ). Distinct l) (sym (hits-are m s [] (trie m (m .first 0)))) (accepted-distinct s (rows m [] (trie m (m .first 0))) (node-once m t b))

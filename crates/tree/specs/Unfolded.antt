@@ -1,12 +1,10 @@
--- The unfolded tree has exactly the used nodes, each once, and no more than 33 levels
-use mathlib.Core.Path.{_≡_, refl, sym, ap, ap₂, _∙_, subst}
+-- The unfolded tree has exactly the used nodes, and no more than 33 levels
+use mathlib.Core.Path.{_≡_, refl, sym, ap, _∙_, subst}
 use mathlib.Core.Logic.{_⊎_, inl, inr, _↔_}
-use mathlib.Core.List.{List, [], _∷_, _++_, map, append-assoc, List·Memᴰ, List·Memᴰ·head, List·Memᴰ·tail, List·Memᴰ·cases-cons, List·Memᴰ·append-cases, List·Memᴰ·not-nil, Memᴰ·append-left, Memᴰ·append-right, tail-eq-of-cons-eq, head-eq-of-cons-eq}
+use mathlib.Core.List.{List, [], _∷_, _++_, List·Memᴰ, List·Memᴰ·head, List·Memᴰ·tail, List·Memᴰ·cases-cons, List·Memᴰ·append-cases, List·Memᴰ·not-nil, Memᴰ·append-left, Memᴰ·append-right}
 use Prim.Native.Nat.{ℕ, zero, suc, _+_, _-_, _*_, _≤_, _<_}
 use native.Mathlib.Omega.{arith}
-use lib.ListN.{length, length-append}
-use Rattle.term.specs.Beginnings.{Distinct}
-use Rattle.term.specs.Distinct.{distinct-append, distinct-map}
+use lib.ListN.{length}
 use Rattle.tree.specs.Basics.{up-live}
 use Rattle.tree.specs.Shape.{Shape, child, after, Used, Live, Up, top, down, Tree}
 use Rattle.tree.specs.Trie.{tip, node, unfolded, FUEL, trie, rows, height, Bounded}
@@ -195,100 +193,3 @@ module _ (m : Shape) (t : Tree m) where
 
     pub holds : (n : ℕ) (r : List ℕ) → List·Memᴰ (n, r) (rows m [] (trie m (m .first 0))) ↔ Up m (suc n) r
     holds n r = ((λ i. sound FUEL (m .first 0) [] (under-first m t 0 top) i), complete n r)
-
--- ---- .. and each once: rows below a node pass its cell, and rows beside it pass a greater one
-
--- equally long endings of one list are equal
-same-end : (a b x y : List ℕ) → a ++ x ≡ b ++ y → length x ≡ length y → x ≡ y
-same-end [] [] x y e h = e
-same-end [] (d ∷ b) x y e h = absurd (let q = ap length e ∙ ap suc (length-append b y) in omega arith)
-same-end (c ∷ a) [] x y e h = absurd (let q = sym (ap length e) ∙ ap suc (length-append a x) in omega arith)
-same-end (c ∷ a) (d ∷ b) x y e h = same-end a b x y (tail-eq-of-cons-eq e) h
-
--- a row that goes through p and then a cell of at least k
-record Through (p : List ℕ) (k : ℕ) (q : List ℕ) : Type 0 where
-  more : List ℕ
-  cell : ℕ
-  is : more ++ cell ∷ p ≡ q
-  least : k ≤ cell
-
-module _ (m : Shape) (t : Tree m) where
-  through : (f l : ℕ) (p : List ℕ) (k : ℕ) → ((n : ℕ) → l ≡ suc n → Used m n × (k ≤ m .cell n)) → (x : ℕ × List ℕ) → List·Memᴰ x (rows m p (unfolded m f l))
-      → Through p k (x .1)
-  unfolding unfolded
-  through zero l p k h x i = absurd (List·Memᴰ·not-nil i)
-  through (suc f) zero p k h x i = absurd (List·Memᴰ·not-nil i)
-  through (suc f) (suc n) p k h x i = go (λ l p k h i. through f l p k h x i) (List·Memᴰ·cases-cons i)
-    where
-      l₁ : List (ℕ × List ℕ)
-      l₁ = rows m (m .cell n ∷ p) (unfolded m f (m .first (suc n)))
-
-      l₂ : List (ℕ × List ℕ)
-      l₂ = rows m p (unfolded m f (m .next n))
-
-      IH : Type 0
-      IH = (l : ℕ) (p : List ℕ) (k : ℕ) → ((n : ℕ) → l ≡ suc n → Used m n × (k ≤ m .cell n)) → List·Memᴰ x (rows m p (unfolded m f l)) → Through p k (x .1)
-
-      q : Used m n × (k ≤ m .cell n)
-      q = h n refl
-
-      two : IH → List·Memᴰ x l₁ ⊎ List·Memᴰ x l₂ → Through p k (x .1)
-      two ih (inl j) =
-          let w = ih (m .first (suc n)) (m .cell n ∷ p) 0 (λ a e. (t .goes (child (suc n)) (q .0) e .used, omega arith)) j in
-          record { more = w .more ++ (w .cell ∷ []); cell = m .cell n; is = append-assoc (w .more) (w .cell ∷ []) (m .cell n ∷ p) ∙ w .is; least = q .1 }
-      two ih (inr j) = ih (m .next n) p k (λ a e. let g = t .goes (after n) (q .0) e in (g .used, omega (arith, g .above, q .1))) j
-
-      go : IH → (x ≡ (n, m .cell n ∷ p)) ⊎ List·Memᴰ x (l₁ ++ l₂) → Through p k (x .1)
-      go ih (inl e) = record { more = []; cell = m .cell n; is = sym (ap (λ (z : ℕ × List ℕ). z .1) e); least = q .1 }
-      go ih (inr j) = two ih (List·Memᴰ·append-cases l₁ j)
-
-  distinct : (f l : ℕ) (p : List ℕ) → ((n : ℕ) → l ≡ suc n → Used m n) → Distinct (rows m p (unfolded m f l))
-  unfolding unfolded
-  distinct zero l p h = tt
-  distinct (suc f) zero p h = tt
-  distinct (suc f) (suc n) p h = (first-apart, distinct-append l₁ l₂ (distinct f (m .first (suc n)) (m .cell n ∷ p) below) (distinct f (m .next n) p beside) apart)
-    where
-      u : Used m n
-      u = h n refl
-
-      l₁ : List (ℕ × List ℕ)
-      l₁ = rows m (m .cell n ∷ p) (unfolded m f (m .first (suc n)))
-
-      l₂ : List (ℕ × List ℕ)
-      l₂ = rows m p (unfolded m f (m .next n))
-
-      below : (k : ℕ) → m .first (suc n) ≡ suc k → Used m k
-      below k e = t .goes (child (suc n)) u e .used
-
-      beside : (k : ℕ) → m .next n ≡ suc k → Used m k
-      beside k e = t .goes (after n) u e .used
-
-      in₁ : (x : ℕ × List ℕ) → List·Memᴰ x l₁ → Through (m .cell n ∷ p) 0 (x .1)
-      in₁ x i = through f (m .first (suc n)) (m .cell n ∷ p) 0 (λ k e. (below k e, omega arith)) x i
-
-      in₂ : (x : ℕ × List ℕ) → List·Memᴰ x l₂ → Through p (suc (m .cell n)) (x .1)
-      in₂ x i = through f (m .next n) p (suc (m .cell n)) (λ k e. (beside k e, t .goes (after n) u e .above)) x i
-
-      apart : (x : ℕ × List ℕ) → List·Memᴰ x l₁ → List·Memᴰ x l₂ → ⊥
-      apart x i j =
-          let a = in₁ x i in let b = in₂ x j in
-          let e : m .cell n ∷ p ≡ b .cell ∷ p = same-end (a .more ++ (a .cell ∷ [])) (b .more) (m .cell n ∷ p) (b .cell ∷ p) (append-assoc (a .more) (a .cell ∷ []) (m .cell n ∷ p) ∙ a .is ∙ sym (b .is)) refl in
-          omega (arith, head-eq-of-cons-eq e, b .least)
-
-      first-apart : ¬ (List·Memᴰ (n, m .cell n ∷ p) (l₁ ++ l₂))
-      first-apart i = go (List·Memᴰ·append-cases l₁ i)
-        where
-          go : List·Memᴰ (n, m .cell n ∷ p) l₁ ⊎ List·Memᴰ (n, m .cell n ∷ p) l₂ → ⊥
-          go (inl j) = let a = in₁ (n, m .cell n ∷ p) j in omega (arith, sym (length-append (a .more) (a .cell ∷ m .cell n ∷ p)) ∙ ap length (a .is))
-          go (inr j) =
-              let b = in₂ (n, m .cell n ∷ p) j in
-              let e : b .cell ∷ p ≡ m .cell n ∷ p = same-end (b .more) [] (b .cell ∷ p) (m .cell n ∷ p) (b .is) refl in
-              omega (arith, head-eq-of-cons-eq e, b .least)
-
-  pub once : Distinct (rows m [] (trie m (m .first 0)))
-  once = distinct FUEL (m .first 0) [] (λ n e. t .goes (child 0) tt e .used)
-
-  pub node-once : Bounded m → Distinct (map (λ x. x .0) (rows m [] (trie m (m .first 0))))
-  node-once b = distinct-map (λ x. x .0) (rows m [] (trie m (m .first 0))) once
-      (λ x y i j e. ap₂ (λ (n : ℕ) (r : List ℕ). (n, r)) e
-      (up-same (holds m t b (x .0) (x .1) .0 i) (subst (λ (n : ℕ). Up m (suc n) (y .1)) (sym e) (holds m t b (y .0) (y .1) .0 j))))
