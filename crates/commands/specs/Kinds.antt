@@ -31,7 +31,7 @@ known act z t = record { act = act; known = true; zero = z; term = t }
 abbrev pub unknown : Kind
 unknown = record { act = Unknown; known = false; zero = false; term = false }
 
--- The kinds from 0 on.
+-- The kinds from 0 on: what each does, whether its number has to be 0, whether a term follows. 0 is add, 1 remove, 2 to 5 the four questions, 6 show, 7 room.
 abbrev pub kinds : List Kind
 kinds =
     known Add false true

@@ -32,7 +32,7 @@ fn row(act: Act, zero: bool, term: bool) -> Kind
     }
 }
 
-// A match and no array, since it compiles to a look-up, and an array would be put on the stack for each command.
+// What each does, whether its number has to be 0, whether a term follows. A match and no array, since it compiles to a look-up, and an array would be put on the stack for each command.
 pub fn kind_of(kind: u16) -> Kind
     ensures { λ r. ⌜ r ≡ kindAt kind ⌝ }
 {
