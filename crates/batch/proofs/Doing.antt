@@ -7,6 +7,7 @@ use native.Mathlib.Omega.{arith}
 use lib.Dec.{leb, ltb}
 use lib.ListN.{length, take, drop, replicate}
 use lib.Seq.{take-append-seam}
+use Rattle.layout.specs.Layout.{rulesLimit, nodesLimit}
 use Rattle.bits.specs.Numbers.{has}
 use Rattle.term.specs.Counting.{true≢false}
 use Rattle.term.specs.Questions.{Mode}
@@ -51,7 +52,7 @@ no-room-for ws out e h w = record { writes = w; fits = λ l. absurd (omega arith
 taken-free : (rules : Rules) (k : ℕ) (t : List ℕ) → judged rules k t ≡ Taken → rules k ≡ nothing
 taken-free rules k t = go (rules k)
   where
-    go : (h : Held) → pickAdded (isHeld h) HeldAlready (pickAdded (leb 512 (ruleCount rules)) BookFull (pickAdded (ltb 4096 (nodesOf (withRule rules k t))) NoNodes Taken)) ≡ Taken → h ≡ nothing
+    go : (h : Held) → pickAdded (isHeld h) HeldAlready (pickAdded (leb rulesLimit (ruleCount rules)) BookFull (pickAdded (ltb nodesLimit (nodesOf (withRule rules k t))) NoNodes Taken)) ≡ Taken → h ≡ nothing
     go nothing e = refl
     go (rule s) e = absurd (let z : _≡_ {A = ℕ} 0 1 = cc in omega arith)
 
@@ -120,7 +121,7 @@ module _ (ws q marks : List ℕ) (fillsQ fillsR : Bool) (asked : Asked fillsQ fi
   pub listed-are : (out out′ : List ℕ) (n : ℕ) → Lists marks out out′ n → out′ ≡ answers mode q (rulesIn ws) ++ drop (length (answers mode q (rulesIn ws))) out
   listed-are out out′ n l = l .is ∙ ap₂ (λ (z : List ℕ) (k : ℕ). z ++ drop k out) these (as-many out out′ n l)
 
-  pub never-many : Passing ws → length (numbers (has marks) 4096) ≤ 512
+  pub never-many : Passing ws → length (numbers (has marks) 4096) ≤ rulesLimit
   never-many p = omega (arith, ap length these, never-more mode q (rulesIn ws), limited ws p .few)
 
 -- ---- showing

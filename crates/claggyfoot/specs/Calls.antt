@@ -4,6 +4,7 @@ use mathlib.Core.Logic.{_⊎_, _↔_}
 use mathlib.Core.List.{List, [], _∷_, _++_}
 use Prim.Native.Nat.{ℕ, _-_, _/_, _≤_, _<_}
 use lib.ListN.{length, getD, drop}
+use Rattle.layout.specs.Layout.{nodesLimit}
 use Rattle.book.specs.Rules.{nodesOf}
 use Rattle.book.specs.Memory.{Passing, rulesIn}
 use Rattle.commands.specs.Records.{Record, bare, written}
@@ -94,4 +95,4 @@ pub record NodesTaken (call : Call) (s t : Stage) : Type 0 where
   pub after : List ℕ
   pub at-stage : MemoryAt (call .book) (call .book′) s before
   pub at-next : MemoryAt (call .book) (call .book′) t after
-  pub exactly : (n : ℕ) → n < 4096 → InUse after n ↔ (InUse before n ⊎ (freeBelow before n < nodesOf (t .rules) - nodesOf (s .rules)))
+  pub exactly : (n : ℕ) → n < nodesLimit → InUse after n ↔ (InUse before n ⊎ (freeBelow before n < nodesOf (t .rules) - nodesOf (s .rules)))

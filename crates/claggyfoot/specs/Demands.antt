@@ -16,7 +16,7 @@ use native.Mathlib.Omega.{arith}
 use native.Mathlib.Decide.{ℕ-discrete}
 use lib.ListN.{length, getD, take, drop}
 use lib.Seq.{take-at}
-use Rattle.layout.specs.Layout.{bookWords}
+use Rattle.layout.specs.Layout.{bookWords, rulesLimit, nodesLimit}
 use Rattle.term.specs.Questions.{Mode, instances, generalisations}
 use Rattle.term.specs.declared.reading.Fault.the-variants.{TooLong, CutShort, FieldSet, AboveFifteen, AboveCount}
 use Rattle.names.specs.Name.{IsName}
@@ -122,11 +122,11 @@ module _ {call : Call} {s : Stage} {c : ℕ} {behind : List ℕ} (at : CameTo ca
   refusal-7 = refused-exactly at 7 (λ e. absurd (omega arith)) (goes-on-with (s .rules) kind number (omega arith) behind 7 (λ x. let a = x .1 in omega arith)) (not-held (s .rules) kind number (omega arith) behind)
 
   -- 8: add, 512 rules held (and not 6). Record 8000, go on.
-  pub refusal-8 : Exactly (Answered call s 8) ((0 < s .room) × (Adds-term row behind size × ((s .rules number ≡ nothing) × (512 ≤ ruleCount (s .rules))))) (RefusedOn call s 8 c behind)
+  pub refusal-8 : Exactly (Answered call s 8) ((0 < s .room) × (Adds-term row behind size × ((s .rules number ≡ nothing) × (rulesLimit ≤ ruleCount (s .rules))))) (RefusedOn call s 8 c behind)
   refusal-8 = add-exactly at 8 (omega arith) (λ e. absurd (omega arith)) (eight (s .rules) number term)
 
   -- 9: add, node count with the rule would pass 4,096 (and neither 6 nor 8). Record 9000, go on.
-  pub refusal-9 : Exactly (Answered call s 9) ((0 < s .room) × (Adds-term row behind size × ((s .rules number ≡ nothing) × (ruleCount (s .rules) < 512) × (4096 < nodesOf (withRule (s .rules) number term))))) (RefusedOn call s 9 c behind)
+  pub refusal-9 : Exactly (Answered call s 9) ((0 < s .room) × (Adds-term row behind size × ((s .rules number ≡ nothing) × (ruleCount (s .rules) < rulesLimit) × (nodesLimit < nodesOf (withRule (s .rules) number term))))) (RefusedOn call s 9 c behind)
   refusal-9 = add-exactly at 9 (omega arith) (λ e. absurd (omega arith)) (nine (s .rules) number term)
 
   -- 10: the record, good or refused, doesn't fit in the output left. No record, no effect, stop.

@@ -6,6 +6,7 @@ use mathlib.Core.Bool.{Bool, true, false}
 use Prim.Native.Nat.{ℕ, zero, suc, _+_, _-_, _≤_, _<_}
 use native.Mathlib.Omega.{arith}
 use native.Mathlib.Decide.{ℕ-discrete}
+use Rattle.layout.specs.Layout.{nodesLimit}
 use Rattle.term.specs.Counting.{true≢false}
 use Rattle.tree.specs.Tally.{bit, tally}
 use Rattle.tree.specs.Tallies.{bit-le, tally-all, tally-le}
@@ -27,9 +28,9 @@ one-more w n = refl
 
 -- ---- two sets of numbers below 4,096, the first a part of the second
 
-module _ (u v : ℕ → Bool) (kept : (n : ℕ) → n < 4096 → u n ≡ true → v n ≡ true) (n : ℕ) where
+module _ (u v : ℕ → Bool) (kept : (n : ℕ) → n < nodesLimit → u n ≡ true → v n ≡ true) (n : ℕ) where
   -- above n at least as many are in the second
-  more-above : (k : ℕ) → n ≤ k → k ≤ 4096 → tally v n + tally u k ≤ tally u n + tally v k
+  more-above : (k : ℕ) → n ≤ k → k ≤ nodesLimit → tally v n + tally u k ≤ tally u n + tally v k
   unfolding tally
   more-above zero h b = subst (λ (z : ℕ). tally v z + 0 ≤ tally u z + 0) (let e : 0 ≡ n = omega arith in e) (omega arith)
   more-above (suc k) h b = go (ℕ-discrete n (suc k)) (λ l. more-above k l (omega arith))
@@ -39,7 +40,7 @@ module _ (u v : ℕ → Bool) (kept : (n : ℕ) → n < 4096 → u n ≡ true �
       go (no e) ih = let x = ih (omega arith) in let y = bit-le (v k) (u k) (kept k (omega arith)) in omega arith
 
   -- exactly as many where above n the two are the same
-  same-above : ((j : ℕ) → n ≤ j → j < 4096 → v j ≡ u j) → (k : ℕ) → n ≤ k → k ≤ 4096 → tally v n + tally u k ≡ tally u n + tally v k
+  same-above : ((j : ℕ) → n ≤ j → j < nodesLimit → v j ≡ u j) → (k : ℕ) → n ≤ k → k ≤ nodesLimit → tally v n + tally u k ≡ tally u n + tally v k
   unfolding tally
   same-above s zero h b = subst (λ (z : ℕ). tally v z + 0 ≡ tally u z + 0) (let e : 0 ≡ n = omega arith in e) refl
   same-above s (suc k) h b = go (ℕ-discrete n (suc k)) (λ l. same-above s k l (omega arith))
@@ -48,7 +49,7 @@ module _ (u v : ℕ → Bool) (kept : (n : ℕ) → n < 4096 → u n ≡ true �
       go (yes e) ih = subst (λ (z : ℕ). tally v n + tally u z ≡ tally u n + tally v z) e (omega arith)
       go (no e) ih = let x = ih (omega arith) in let y : bit (v k) ≡ bit (u k) = ap bit (s k (omega arith) (omega arith)) in omega arith
 
-module _ (m m′ : List ℕ) (p : Passing m) (q : Passing m′) (takes : TakesLowest (view m .tree) (view m′ .tree)) (n : ℕ) (low : n < 4096) where
+module _ (m m′ : List ℕ) (p : Passing m) (q : Passing m′) (takes : TakesLowest (view m .tree) (view m′ .tree)) (n : ℕ) (low : n < nodesLimit) where
   abbrev u : ℕ → Bool
   u = view m .tree .used
 
@@ -82,12 +83,12 @@ module _ (m m′ : List ℕ) (p : Passing m) (q : Passing m′) (takes : TakesLo
       let e = tally-le u n in let g = tally-le v n in
       omega arith
     where
-      free : (j : ℕ) → j < 4096 → n < j → (a b : Bool) → u j ≡ a → v j ≡ b → v j ≡ u j
+      free : (j : ℕ) → j < nodesLimit → n < j → (a b : Bool) → u j ≡ a → v j ≡ b → v j ≡ u j
       free j l h true b x y = takes .kept j l x ∙ sym x
       free j l h false true x y = absurd (true≢false (takes .lowest j l x y n h) t)
       free j l h false false x y = y ∙ sym x
 
-      same : (j : ℕ) → n ≤ j → j < 4096 → v j ≡ u j
+      same : (j : ℕ) → n ≤ j → j < nodesLimit → v j ≡ u j
       same j h l = go (ℕ-discrete n j)
         where
           go : Dec (n ≡ j) → v j ≡ u j

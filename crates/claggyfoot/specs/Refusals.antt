@@ -9,6 +9,7 @@ use native.Mathlib.Decide.{ℕ-discrete, decLt}
 use borrow.Author.Tests.{ltb-true, leb-true, leb-false, lt-ltb, le-leb, lt-leb}
 use lib.Dec.{leb, ltb}
 use lib.ListN.{length, take, drop, length-drop}
+use Rattle.layout.specs.Layout.{rulesLimit, nodesLimit}
 use Rattle.term.specs.Counting.{true≢false}
 use Rattle.term.specs.Reading.{readTerm}
 use Rattle.term.specs.declared.reading.Reading.the-variants.{Whole}
@@ -79,21 +80,21 @@ free-is (rule t) e = absurd (true≢false refl e)
 module _ (rules : Rules) (k : ℕ) (term : List ℕ) where
   -- number already held
   pub six : addRefusal (judged rules k term) ≡ 6 ↔ Held-already rules k
-  six = (λ e. held-is (rules k) (is-6 (isHeld (rules k)) (leb 512 (ruleCount rules)) (ltb 4096 (nodesOf (withRule rules k term))) e), λ h. at-6 (isHeld (rules k)) (leb 512 (ruleCount rules)) (ltb 4096 (nodesOf (withRule rules k term))) (ap isHeld (h .1)))
+  six = (λ e. held-is (rules k) (is-6 (isHeld (rules k)) (leb rulesLimit (ruleCount rules)) (ltb nodesLimit (nodesOf (withRule rules k term))) e), λ h. at-6 (isHeld (rules k)) (leb rulesLimit (ruleCount rules)) (ltb nodesLimit (nodesOf (withRule rules k term))) (ap isHeld (h .1)))
 
   -- 512 rules held
-  pub eight : addRefusal (judged rules k term) ≡ 8 ↔ ((rules k ≡ nothing) × (512 ≤ ruleCount rules))
+  pub eight : addRefusal (judged rules k term) ≡ 8 ↔ ((rules k ≡ nothing) × (rulesLimit ≤ ruleCount rules))
   eight = (
-    (λ e. let x = is-8 (isHeld (rules k)) (leb 512 (ruleCount rules)) (ltb 4096 (nodesOf (withRule rules k term))) e in (free-is (rules k) (x .0), leb-true 512 (ruleCount rules) (x .1))),
-    (λ h. at-8 (isHeld (rules k)) (leb 512 (ruleCount rules)) (ltb 4096 (nodesOf (withRule rules k term))) (ap isHeld (h .0)) (le-leb 512 (ruleCount rules) (h .1))),
+    (λ e. let x = is-8 (isHeld (rules k)) (leb rulesLimit (ruleCount rules)) (ltb nodesLimit (nodesOf (withRule rules k term))) e in (free-is (rules k) (x .0), leb-true rulesLimit (ruleCount rules) (x .1))),
+    (λ h. at-8 (isHeld (rules k)) (leb rulesLimit (ruleCount rules)) (ltb nodesLimit (nodesOf (withRule rules k term))) (ap isHeld (h .0)) (le-leb rulesLimit (ruleCount rules) (h .1))),
   )
 
   -- the node count with the rule would pass 4,096
-  pub nine : addRefusal (judged rules k term) ≡ 9 ↔ ((rules k ≡ nothing) × (ruleCount rules < 512) × (4096 < nodesOf (withRule rules k term)))
+  pub nine : addRefusal (judged rules k term) ≡ 9 ↔ ((rules k ≡ nothing) × (ruleCount rules < rulesLimit) × (nodesLimit < nodesOf (withRule rules k term)))
   nine = (
-    (λ e. let x = is-9 (isHeld (rules k)) (leb 512 (ruleCount rules)) (ltb 4096 (nodesOf (withRule rules k term))) e in
-        (free-is (rules k) (x .0), leb-false 512 (ruleCount rules) (x .1), ltb-true 4096 (nodesOf (withRule rules k term)) (x .2))),
-    (λ h. at-9 (isHeld (rules k)) (leb 512 (ruleCount rules)) (ltb 4096 (nodesOf (withRule rules k term))) (ap isHeld (h .0)) (lt-leb 512 (ruleCount rules) (h .1)) (lt-ltb 4096 (nodesOf (withRule rules k term)) (h .2))),
+    (λ e. let x = is-9 (isHeld (rules k)) (leb rulesLimit (ruleCount rules)) (ltb nodesLimit (nodesOf (withRule rules k term))) e in
+        (free-is (rules k) (x .0), leb-false rulesLimit (ruleCount rules) (x .1), ltb-true nodesLimit (nodesOf (withRule rules k term)) (x .2))),
+    (λ h. at-9 (isHeld (rules k)) (leb rulesLimit (ruleCount rules)) (ltb nodesLimit (nodesOf (withRule rules k term))) (ap isHeld (h .0)) (lt-leb rulesLimit (ruleCount rules) (h .1)) (lt-ltb nodesLimit (nodesOf (withRule rules k term)) (h .2))),
   )
 
 -- remove, show: number not held

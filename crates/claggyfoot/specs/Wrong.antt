@@ -6,7 +6,7 @@ use mathlib.Core.Bool.{Bool, true}
 use Prim.Native.Nat.{ℕ, zero, suc, _+_, _-_, _≤_, _<_}
 use native.Mathlib.Omega.{arith}
 use lib.ListN.{length, replicate, drop}
-use Rattle.layout.specs.Layout.{bookWords}
+use Rattle.layout.specs.Layout.{bookWords, nodesLimit}
 use Rattle.term.specs.Reading.{readTerm, readFrom, takes}
 use Rattle.term.specs.Beginnings.{nodes}
 use Rattle.tree.specs.Tally.{bit, tally}
@@ -168,12 +168,12 @@ module _ {ws ws′ out′ : List ℕ} {stop used n : ℕ} (p : Passing ws) (is :
   gained : nodesOf (rulesIn (a .0)) - nodesOf (rulesIn ws) ≡ 1
   gained = ap₂ (λ (x y : ℕ). x - y) (ap nodesOf (a .1 .rules-are ∙ ap (λ (x : Rules). withRule x 2 (0x0003 ∷ [])) is) ∙ two-nodes) (ap nodesOf is ∙ one-node)
 
-  few : (node : ℕ) → node ≤ 4096 → tally u node ≤ 1
+  few : (node : ℕ) → node ≤ nodesLimit → tally u node ≤ 1
   few node h =
       let all : tally u node ≤ tally u 4096 = subst (λ (z : ℕ). tally u node ≤ tally u z) (let e : 4096 - node + node ≡ 4096 = omega arith in e) (no-fewer u node (4096 - node)) in
       let e = before in omega arith
 
-  pub takes-another-node : (node : ℕ) → 1 < node → node < 4096 → ¬ (InUse ws′ node)
+  pub takes-another-node : (node : ℕ) → 1 < node → node < nodesLimit → ¬ (InUse ws′ node)
   takes-another-node node h l last = go (which-nodes ws (a .0) p (a .1 .passes) (a .1 .nodes) node l .0 there)
     where
       there : InUse (a .0) node

@@ -8,6 +8,7 @@ use Prim.Native.Nat.{ℕ, _+_, _*_, _-_, _≤_, _<_}
 use native.Mathlib.Omega.{arith}
 use lib.ListN.{length}
 use borrow.Rule.Slice.PartMut.{putMid, same-len-mid, mid-len}
+use Rattle.layout.specs.Layout.{rulesLimit}
 use Rattle.book.specs.Memory.{rulesIn}
 use Rattle.bits.specs.Numbers.{NumberSet, has}
 use Rattle.questions.specs.Asking.{numbers, answers}
@@ -46,7 +47,7 @@ module _ (r : tie.After-mark-answers) where
   answers-are : numbers (has marks) 4096 ≡ answers (mode) (s .args .question .now) (rulesIn (s .args .book .now))
   answers-are = these (s .args .book .now) (s .args .question .now) marks fq fr answering
 
-  few : length (numbers (has marks) 4096) ≤ 512
+  few : length (numbers (has marks) 4096) ≤ rulesLimit
   few = never-many (s .args .book .now) (s .args .question .now) marks fq fr answering (s .pre .0)
 
 returns : tie.Need-returns
