@@ -6,5 +6,6 @@ pub mod Leaving
 pub mod Marking
 pub mod Turning
 pub mod Searching
+pub mod Walking
 pub mod Lending
 pub mod Writing

@@ -8,7 +8,7 @@ use lib.ListN.{length, getD, take, length-take, List·getD-eq-default}
 use lib.Seq.{getD-take}
 use Rattle.layout.specs.Layout.{linksAt, lastLink, treeWords}
 use Rattle.tree.specs.Shape.{after, Used, Tree}
-use Rattle.tree.specs.Words.{cellOf, firstOf, nextOf, word}
+use Rattle.tree.specs.Words.{cellOf, nextOf, word}
 use Rattle.tree.specs.Rows.{passes-tree}
 use Rattle.tree.specs.Trie.{trie, Bounded}
 use Rattle.tree.specs.Unfolded.{opens}
@@ -60,12 +60,6 @@ module _ (ws : List ℕ) (p : Passing ws) where
   next-less all n u =
       let o = ap size (opens (view ws .tree) tree (bound all) n u) in
       let e = ap (λ (x : ℕ). size (trie (view ws .tree) x)) (next-is n u) in
-      omega (arith, o, e)
-
-  pub child-less : ((i : ℕ) → getD ws i 0 < 2 ^ 64) → (n : ℕ) → Used (view ws .tree) n → size (trie (view ws .tree) (firstOf (getD ws (linksAt + suc n) 0))) < size (trie (view ws .tree) (suc n))
-  child-less all n u =
-      let o = ap size (opens (view ws .tree) tree (bound all) n u) in
-      let e = ap (λ (x : ℕ). size (trie (view ws .tree) x)) (ap firstOf (word-of n u)) in
       omega (arith, o, e)
 
 -- along siblings
