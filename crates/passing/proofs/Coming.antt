@@ -7,13 +7,14 @@ use native.Mathlib.Omega.{arith}
 use borrow.Author.Tests.{lt-ltb, le-ltb}
 use lib.Dec.{eqb}
 use lib.ListN.{length, getD, set}
+use Rattle.deciding.specs.Deciding.{pick}
 use Rattle.layout.specs.Layout.{nodesLimit, mapWords, linksAt, lastLink}
 use Rattle.bits.specs.Packed.{bits}
 use Rattle.term.specs.Counting.{true≢false}
 use Rattle.tree.specs.Tally.{marked}
 use Rattle.tree.specs.Tallies.{mark-here, mark-other}
 use Rattle.tree.specs.Words.{cellOf, parentOf, firstOf, nextOf, Node}
-use Rattle.passing.specs.State.{pickCell, numbered, Come, Pushed, Asked, Entered, AskedRule, RuleEntered}
+use Rattle.passing.specs.State.{numbered, Come, Pushed, Asked, Entered, AskedRule, RuleEntered}
 
 module _ (left : List ℕ) (w n p low : ℕ) where
   stays : (parentOf w ≡ p → low ≤ cellOf w → ¬ (marked left n ≡ true)) → Come left left w n p low false
@@ -57,10 +58,10 @@ module _ (stack : List ℕ) (top w depth : ℕ) (h : depth ≤ 32) where
   is-pushed stack′ z e = record { word = w / 4294967296 * 4294967296 + depth * 65536 + w % 65536; is = with-depth; stored = e; last = λ q. absurd (z q); more = λ q. refl }
 
 pub cell-kept : (c known : ℕ) → c ≤ 32768 → c < 32768 → (c ≡ numbered c known) × (c < 65536)
-cell-kept c known l h = (sym (ap (λ (b : Bool). pickCell b c (c + known)) (lt-ltb c 32768 h)), omega arith)
+cell-kept c known l h = (sym (ap (λ (b : Bool). pick b c (c + known)) (lt-ltb c 32768 h)), omega arith)
 
 pub cell-numbered : (c known : ℕ) → c ≤ 32768 → known ≤ 32 → 32768 ≤ c → (c + known ≡ numbered c known) × (c + known < 65536)
-cell-numbered c known l k h = (sym (ap (λ (b : Bool). pickCell b c (c + known)) (le-ltb c 32768 h)), omega arith)
+cell-numbered c known l k h = (sym (ap (λ (b : Bool). pick b c (c + known)) (le-ltb c 32768 h)), omega arith)
 
 -- ---- a node of forms
 

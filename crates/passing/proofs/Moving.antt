@@ -8,11 +8,12 @@ use native.Mathlib.Omega.{arith}
 use native.Mathlib.Decide.{ℕ-discrete, decLt}
 use lib.Bits.{bitOr, or-add-and, and-le-l, and-le-r}
 use lib.ListN.{length, getD, List·getD-eq-default}
+use Rattle.deciding.specs.Deciding.{Decides}
 use Rattle.layout.specs.Layout.{termWords}
 use Rattle.bits.specs.Packed.{fields}
 use Rattle.bits.specs.Laws.{get-unpack}
 use Rattle.term.specs.Counting.{true≢false}
-use Rattle.passing.specs.State.{blanks, numbered, wordOf, Kept, none, more, Low, TermOf, Decides, Plain, PlainOf, TermDecided}
+use Rattle.passing.specs.State.{blanks, numbered, wordOf, Kept, none, more, Low, TermOf, Plain, PlainOf, TermDecided}
 use Rattle.passing.proofs.Downing.{blanks-low, kept-word}
 use Rattle.passing.proofs.Ruling.{numbered-low}
 use Rattle.passing.proofs.Plainly.{plain-term}
@@ -187,4 +188,4 @@ module _ (words way : List ℕ) (depth : ℕ) where
   plainly eight p = record { yes = λ q ks row kept low deep whole. plain-term words way ks row depth eight kept low deep whole (p ks row kept low deep); no = λ q. absurd (true≢false refl q) }
 
   pub by-cells : (r : Bool) → Decides (TermOf words way depth) r → TermDecided words way depth r
-  by-cells r d = record { yes = λ q ks row kept low deep whole. d .0 q; no = d .1 }
+  by-cells r d = record { yes = λ q ks row kept low deep whole. d .yes q; no = d .no }

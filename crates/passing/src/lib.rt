@@ -7,9 +7,10 @@ ghost use mathlib.Core.Path.{_≡_};
 ghost use mathlib.Core.Bool.{false};
 ghost use Prim.Native.Nat.{_%_, _≤_, _<_};
 ghost use lib.ListN.{length, getD, take};
+ghost use Rattle.deciding.specs.Deciding.{Decides};
 ghost use Rattle.layout.specs.Layout.{mapWords, lastLink, bookWords};
 ghost use Rattle.passing.specs.Promises.{Checks};
-ghost use Rattle.passing.specs.State.{numbered, AtPlace, Sizes, Come, Pushed, Entered, Downed, Decides, RuleEntered, Ruled, Clear, Popped};
+ghost use Rattle.passing.specs.State.{numbered, AtPlace, Sizes, Come, Pushed, Entered, Downed, RuleEntered, Ruled, Clear, Popped};
 use book::Book;
 
 // The mark of a blank, as wide as the cell of a word.
