@@ -50,7 +50,7 @@ fn push(stack: &mut [u64], top: usize, w: u64, depth: usize) -> usize
     requires { ⌜ (length (now stack) ≡ 33) × (top ≤ 32) × (depth ≤ 32) ⌝ }
     ensures { λ r. ⌜ Pushed (now (stack .entry)) (now (stack .exit)) top r w depth ⌝ }
 {
-    stack[top] = w / 4294967296 * 4294967296 + depth as u64 * 65536 + w % 65536;
+    stack[top] = tree::with_first(w, depth as u64);
     if w % 65536 == 0 {
         return top;
     }
