@@ -11,7 +11,7 @@ use lib.ListN.{length, getD, List·getD-eq-default}
 use Rattle.deciding.specs.Deciding.{Decides}
 use Rattle.layout.specs.Layout.{termWords}
 use Rattle.bits.specs.Packed.{fields}
-use Rattle.bits.specs.Laws.{get-unpack}
+use Rattle.bits.specs.Laws.{get-unpack, field-at}
 use Rattle.term.specs.Counting.{true≢false}
 use Rattle.passing.specs.State.{blanks, numbered, wordOf, Kept, none, more, Low, TermOf, Plain, PlainOf, TermDecided}
 use Rattle.passing.proofs.Downing.{blanks-low, kept-word}
@@ -126,11 +126,6 @@ kept-first (more a b h k) = kept-first k
 
 abbrev pub lastOf : List ℕ → ℕ → ℕ
 lastOf way depth = (getD way depth 0 * 2 ^ ((8 - depth) % 4 * 16)) % 2 ^ 64
-
-field-at : (ws : List ℕ) (q k : ℕ) → q * 4 ≤ k → k < q * 4 + 4 → getD (fields ws) k 0 ≡ getD ws q 0 / 2 ^ ((3 - k % 4) * 16) % 2 ^ 16
-field-at ws q k a b =
-    let e : k / 4 ≡ q = omega arith in
-    get-unpack 16 4 ws k (3 - k % 4) (omega arith) ∙ ap (λ (i : ℕ). getD ws i 0 / 2 ^ ((3 - k % 4) * 16) % 2 ^ 16) e
 
 empty-at : (ws : List ℕ) (k : ℕ) → getD ws (k / 4) 0 ≡ 0 → getD (fields ws) k 0 ≡ 0
 empty-at ws k e =

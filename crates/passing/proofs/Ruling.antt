@@ -11,11 +11,12 @@ use lib.ListN.{length, getD, take, drop, length-take, length-map, length-reverse
 use lib.Seq.{ext-getD, getD-take, getD-append-add}
 use Rattle.deciding.specs.Deciding.{pick, Decides, decided, denied}
 use Rattle.layout.specs.Layout.{ruleNumbers, rulesLimit, rulesAt, placesAt, placeWords, termWords, recordWords, recordsAt, termsAt}
-use Rattle.bits.specs.Packed.{fields, Zeros}
+use Rattle.bits.specs.Packed.{fields}
 use Rattle.term.specs.Counting.{true≢false}
 use Rattle.term.specs.Reading.{readTerm}
 use Rattle.term.specs.declared.reading.Reading.the-variants.{Whole}
 use Rattle.term.specs.Whole.{whole-term}
+use Rattle.book.specs.Filling.{Zeros}
 use Rattle.book.specs.Memory.{view, number, term, form, blankNumber}
 use Rattle.book.specs.Forms.{Side, symbol, variable, side}
 use Rattle.tree.specs.Words.{cellOf}

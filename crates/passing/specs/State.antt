@@ -7,7 +7,7 @@ use lib.Dec.{ltb}
 use lib.ListN.{length, getD, set, take, drop}
 use Rattle.deciding.specs.Deciding.{pick}
 use Rattle.layout.specs.Layout.{ruleNumbers, nodesLimit, mapWords, linksAt, lastLink, termWords, recordWords, termsAt, bookWords}
-use Rattle.bits.specs.Packed.{fields, Zeros}
+use Rattle.bits.specs.Packed.{fields}
 use Rattle.term.specs.Reading.{readTerm}
 use Rattle.term.specs.declared.reading.Reading.the-variants.{Whole}
 use Rattle.tree.specs.Shape.{Shape, Place, to, owner, floor}
@@ -16,6 +16,7 @@ use Rattle.tree.specs.Words.{cellOf, parentOf, firstOf, nextOf, Node}
 use Rattle.tree.specs.Promises.{Marked}
 use Rattle.tree.specs.Down.{Ended}
 use Rattle.tree.specs.Stops.{Stop, stop, Standing}
+use Rattle.book.specs.Filling.{Zeros}
 use Rattle.book.specs.Memory.{view, number, blankNumber}
 use Rattle.passing.specs.Walk.{wants, Told, Bare}
 

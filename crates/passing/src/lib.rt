@@ -2,6 +2,7 @@
 // last node of the way that has a next sibling. A node that is come to is taken from those left, so no walk is longer than the maps
 // have bits, and its time goes with the nodes and the rules held.
 pub mod rule;
+pub mod tail;
 
 ghost use mathlib.Core.Path.{_≡_};
 ghost use mathlib.Core.Bool.{false};

@@ -46,7 +46,7 @@ fn is_term(words: &[u64], way: &[u64], depth: usize) -> bool
     requires { ⌜ (length (now words) ≡ termWords) × (length (now way) ≡ 33) × (depth ≤ 32) ⌝ }
     ensures { λ r. ⌜ Decides (TermOf (now (words .entry)) (now (way .entry)) depth) r ⌝ }
 {
-    if !bits::zeros_from(words, depth) {
+    if !crate::tail::zeros_from(words, depth) {
         return false;
     }
     let cells = book::record::load_term(words, depth);
