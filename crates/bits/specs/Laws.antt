@@ -1,12 +1,12 @@
 -- What callers of the packed words use: lengths, what stands at an index, and the count of the set bits after a store
 use mathlib.Core.Path.{_≡_, refl, sym, ap, ap₂, _∙_, subst}
 use mathlib.Core.List.{List, [], _∷_, _++_}
-use Prim.Native.Nat.{ℕ, zero, suc, _+_, _-_, _*_, _/_, _%_, _^_, _<_}
+use Prim.Native.Nat.{ℕ, zero, suc, _+_, _-_, _*_, _/_, _%_, _^_, _≤_, _<_}
 use native.Mathlib.Nat.{div-add-mod', mod-lt, zero-div, zero-mod, mul-one}
 use native.Mathlib.Omega.{arith}
 use lib.ListN.{length, getD, length-append, List·getD-append}
 use lib.Seq.{getD-append-add}
-use Rattle.bits.specs.Packed.{parts, unpack, bits}
+use Rattle.bits.specs.Packed.{parts, unpack, fields, bits}
 
 -- ---- one word
 
@@ -54,6 +54,14 @@ module _ (k m : ℕ) where
   get-unpack ws n t h =
       ap (λ (x : ℕ). getD (unpack k m ws) x 0) (sym (div-add-mod' n m)) ∙ at-word ws (n / m) (n % m) (omega arith)
       ∙ get-parts k m (n % m) t (getD ws (n / m) 0) h
+
+-- ---- fields
+
+-- the field k, which is one of the word q
+pub field-at : (ws : List ℕ) (q k : ℕ) → q * 4 ≤ k → k < q * 4 + 4 → getD (fields ws) k 0 ≡ getD ws q 0 / 2 ^ ((3 - k % 4) * 16) % 2 ^ 16
+field-at ws q k a b =
+    let e : k / 4 ≡ q = omega arith in
+    get-unpack 16 4 ws k (3 - k % 4) (omega arith) ∙ ap (λ (i : ℕ). getD ws i 0 / 2 ^ ((3 - k % 4) * 16) % 2 ^ 16) e
 
 -- ---- bits
 

@@ -25,10 +25,6 @@ unfoldable pub sum : List ℕ → ℕ
 sum [] = 0
 sum (x ∷ xs) = x + sum xs
 
--- all that stands from `from` on is zero
-abbrev pub Zeros : List ℕ → ℕ → Type 0
-Zeros fs from = (k : ℕ) → from ≤ k → getD fs k 0 ≡ 0
-
 -- v does not stand at a place from `from` to before `to`
 abbrev pub Skipped : ℕ → List ℕ → ℕ → ℕ → Type 0
 Skipped v bs from to = (k : ℕ) → from ≤ k → k < to → ¬ (getD bs k 0 ≡ v)

@@ -9,66 +9,13 @@ ghost use Prim.Native.Nat.{_+_, _*_, _≤_, _<_};
 ghost use lib.Dec.{eqb};
 ghost use lib.ListN.{length, getD, set};
 ghost use mathlib.Core.Bool.{true, false};
-ghost use Rattle.bits.specs.Packed.{parts, fields, bits, sum, Skipped, First, Zeros};
+ghost use Rattle.bits.specs.Packed.{parts, fields, bits, sum, Skipped, First};
 
 pub fn field(words: &[u64], i: usize) -> u16
     requires { ⌜ i < 4 * length (now words) ⌝ }
     ensures { λ r. ⌜ r ≡ getD (fields (now (words .entry))) i 0 ⌝ }
 {
     ((words[i / 4] >> ((3 - i % 4) * 16)) % 65536) as u16
-}
-
-// Are the last seven of eight words zero? Test by test and not in a loop, as most terms leave them empty.
-fn seven_zeros(words: &[u64]) -> bool
-    requires { ⌜ length (now words) ≡ 8 ⌝ }
-    ensures yes { λ r. ⌜ (r ≡ true → Zeros (fields (now (words .entry))) 4) ⌝ }
-    ensures no { λ r. ⌜ (r ≡ false → Zeros (fields (now (words .entry))) 4 → ⊥) ⌝ }
-{
-    if words[1] != 0 {
-        return false;
-    }
-    if words[2] != 0 {
-        return false;
-    }
-    if words[3] != 0 {
-        return false;
-    }
-    if words[4] != 0 {
-        return false;
-    }
-    if words[5] != 0 {
-        return false;
-    }
-    if words[6] != 0 {
-        return false;
-    }
-    words[7] == 0
-}
-
-// Are all fields of eight words from `from` on zero? Of the word of `from` the shift drops the fields before it; a word
-// behind it is zero as a whole.
-pub fn zeros_from(words: &[u64], from: usize) -> bool
-    requires { ⌜ length (now words) ≡ 8 ⌝ }
-    ensures yes { λ r. ⌜ (r ≡ true → Zeros (fields (now (words .entry))) from) ⌝ }
-    ensures no { λ r. ⌜ (r ≡ false → Zeros (fields (now (words .entry))) from → ⊥) ⌝ }
-{
-    if 8 <= from / 4 {
-        return true;
-    }
-    if words[from / 4] << (from % 4 * 16) != 0 {
-        return false;
-    }
-    if from < 4 {
-        return seven_zeros(words);
-    }
-    let mut i = from / 4 + 1;
-    while i < 8 {
-        if words[i] != 0 {
-            return false;
-        }
-        i += 1;
-    }
-    true
 }
 
 pub fn put_field(words: &mut [u64], i: usize, x: u16)

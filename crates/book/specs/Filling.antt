@@ -7,7 +7,7 @@ use native.Mathlib.Decide.{ℕ-discrete, decLt}
 use lib.ListN.{length, getD, set, take, replicate, length-set, length-append, length-take, length-replicate, length-map, List·getD-append, List·getD-eq-default}
 use lib.Seq.{ext-getD, getD-set-same, getD-set-other, getD-append-add, getD-take}
 use Rattle.layout.specs.Layout.{termWords}
-use Rattle.bits.specs.Packed.{parts, fields, Zeros}
+use Rattle.bits.specs.Packed.{parts, fields}
 use Rattle.bits.specs.Laws.{length-unpack, parts-zero, at-word}
 use Rattle.book.specs.Memory.{blankNumber, formOf}
 
@@ -24,6 +24,10 @@ filled-more l l′ i x g h s e f k b = ap (λ (z : List ℕ). getD z k 0) s ∙ 
 
 pub filled-all : (l t : List ℕ) (i : ℕ) (g : ℕ → ℕ) → length l ≡ length t → length l ≤ i → ((k : ℕ) → k < length l → g k ≡ getD t k 0) → Filled l i g → l ≡ t
 filled-all l t i g e h same f = ext-getD 0 l t e (λ k b. f k (omega arith) ∙ same k b)
+
+-- all that stands from `from` on is zero
+abbrev pub Zeros : List ℕ → ℕ → Type 0
+Zeros fs from = (k : ℕ) → from ≤ k → getD fs k 0 ≡ 0
 
 pub zeros-are : (n k : ℕ) → _≡_ {A = ℕ} (getD (replicate n 0) k 0) 0
 zeros-are zero k = refl

@@ -4,8 +4,9 @@ ghost use mathlib.Core.List.{_++_, _∷_, []};
 ghost use Prim.Native.Nat.{ℕ, _+_, _-_, _≤_, _<_};
 ghost use lib.ListN.{length, take, replicate, getD};
 ghost use Rattle.layout.specs.Layout.{termWords};
-ghost use Rattle.bits.specs.Packed.{parts, fields, Zeros};
+ghost use Rattle.bits.specs.Packed.{parts, fields};
 ghost use Rattle.book.specs.Memory.{formOf};
+ghost use Rattle.book.specs.Filling.{Zeros};
 
 // The 32 cells of a record's words.
 pub fn load(words: &[u64]) -> [u16; 32]

@@ -2,7 +2,7 @@
 ghost use mathlib.Core.Path.{_≡_};
 ghost use Prim.Native.Nat.{_<_, _≤_};
 ghost use lib.ListN.{length};
-ghost use Rattle.layout.specs.Layout.{ruleNumbers, rulesLimit, lastLink, bookWords};
+ghost use Rattle.layout.specs.Layout.{ruleNumbers, rulesLimit, lastLink, signFields, bookWords};
 ghost use Rattle.book.specs.Memory.{Passing, view};
 ghost use Rattle.book.specs.Promises.{IsTerm};
 ghost use Rattle.change.specs.Promises.{Adds, Removes, Stores};
@@ -63,33 +63,39 @@ fn put_signs(m: &mut [u64], r: usize)
     ensures { λ _. ⌜ view (now (m .exit)) ≡ view (now (m .entry)) ⌝ }
 {
     let at = tree::signs::highest(&m[0..layout::TREE_WORDS], layout::FIRST_RULE + r);
-    put_last(m, at);
-    put_sign(m, at, 0);
-    put_sign(m, at, 1);
-    put_sign(m, at, 3);
+    let ended = tree::signs::list_ended(&m[0..layout::TREE_WORDS], at);
+    put_sign(m, at, ended);
+    let first = field_for(m, at, 0);
+    put_sign(m, at, first);
+    let second = field_for(m, at, 1);
+    put_sign(m, at, second);
+    let fourth = field_for(m, at, 3);
+    put_sign(m, at, fourth);
 }
 
-// The parent of the new node knows it, where it is the last child.
-fn put_last(m: &mut [u64], at: usize)
+// The field of the sign to the node under the key i, or the one that nobody reads.
+fn field_for(m: &[u64], at: usize, i: usize) -> usize
     requires { ⌜ (length (now m) ≡ bookWords) × (at ≤ lastLink) ⌝ }
-    ensures { λ _. ⌜ view (now (m .exit)) ≡ view (now (m .entry)) ⌝ }
+    ensures { λ k. ⌜ k < signFields ⌝ }
 {
-    let p = tree::signs::list_ended(&m[0..layout::TREE_WORDS], at);
-    bits::put_field(&mut m[layout::SIGNS_AT..layout::SIGNS_END], p, at as u16);
-}
-
-// The sign to the new node under the key i, where it has one.
-fn put_sign(m: &mut [u64], at: usize, i: usize)
-    requires { ⌜ (length (now m) ≡ bookWords) × (at ≤ lastLink) ⌝ }
-    ensures { λ _. ⌜ view (now (m .exit)) ≡ view (now (m .entry)) ⌝ }
-{
-    let k = tree::signs::field_for(
+    tree::signs::field_for(
         &m[0..layout::TREE_WORDS],
         &m[layout::SIGNS_AT..layout::SIGNS_END],
         at,
         i,
+    )
+}
+
+// Puts a sign to the node in a field.
+fn put_sign(m: &mut [u64], at: usize, field: usize)
+    requires { ⌜ (length (now m) ≡ bookWords) × (at ≤ lastLink) × (field < signFields) ⌝ }
+    ensures { λ _. ⌜ view (now (m .exit)) ≡ view (now (m .entry)) ⌝ }
+{
+    bits::put_field(
+        &mut m[layout::SIGNS_AT..layout::SIGNS_END],
+        field,
+        at as u16,
     );
-    bits::put_field(&mut m[layout::SIGNS_AT..layout::SIGNS_END], k, at as u16);
 }
 
 // Removes the rule of a number, with the nodes that no other rule needs.

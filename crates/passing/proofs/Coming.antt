@@ -7,13 +7,14 @@ use native.Mathlib.Omega.{arith}
 use borrow.Author.Tests.{lt-ltb, le-ltb}
 use lib.Dec.{eqb}
 use lib.ListN.{length, getD, set}
+use Rattle.deciding.specs.Deciding.{pick}
 use Rattle.layout.specs.Layout.{nodesLimit, mapWords, linksAt, lastLink}
 use Rattle.bits.specs.Packed.{bits}
 use Rattle.term.specs.Counting.{true≢false}
 use Rattle.tree.specs.Tally.{marked}
 use Rattle.tree.specs.Tallies.{mark-here, mark-other}
 use Rattle.tree.specs.Words.{cellOf, parentOf, firstOf, nextOf, Node}
-use Rattle.passing.specs.State.{pickCell, numbered, Come, Pushed, Asked, Entered, AskedRule, RuleEntered}
+use Rattle.passing.specs.State.{numbered, Come, Pushed, Asked, Entered, AskedRule, RuleEntered}
 
 module _ (left : List ℕ) (w n p low : ℕ) where
   stays : (parentOf w ≡ p → low ≤ cellOf w → ¬ (marked left n ≡ true)) → Come left left w n p low false
@@ -46,21 +47,18 @@ module _ (left : List ℕ) (w n p low : ℕ) where
     others = λ r. mark-other left left′ n 0 (omega arith) e;
   }
 
-module _ (stack : List ℕ) (top w depth : ℕ) (h : depth ≤ 32) where
-  with-depth : Node (w / 4294967296 * 4294967296 + depth * 65536 + w % 65536) (cellOf w) (parentOf w) depth (nextOf w)
-  with-depth = record { cell = omega arith; parent = omega arith; first = omega arith; next = omega arith }
+module _ (stack : List ℕ) (top w depth word : ℕ) (is : Node word (cellOf w) (parentOf w) depth (nextOf w)) where
+  pub not-pushed : nextOf w ≡ 0 → Pushed stack (set stack top word) top top w depth
+  not-pushed z = record { word = word; is = is; stored = refl; last = λ q. refl; more = λ q. absurd (q z) }
 
-  pub not-pushed : (stack′ : List ℕ) → w % 65536 ≡ 0 → stack′ ≡ set stack top (w / 4294967296 * 4294967296 + depth * 65536 + w % 65536) → Pushed stack stack′ top top w depth
-  not-pushed stack′ z e = record { word = w / 4294967296 * 4294967296 + depth * 65536 + w % 65536; is = with-depth; stored = e; last = λ q. refl; more = λ q. absurd (q z) }
-
-  pub is-pushed : (stack′ : List ℕ) → ¬ (w % 65536 ≡ 0) → stack′ ≡ set stack top (w / 4294967296 * 4294967296 + depth * 65536 + w % 65536) → Pushed stack stack′ top (top + 1) w depth
-  is-pushed stack′ z e = record { word = w / 4294967296 * 4294967296 + depth * 65536 + w % 65536; is = with-depth; stored = e; last = λ q. absurd (z q); more = λ q. refl }
+  pub is-pushed : ¬ (nextOf w ≡ 0) → Pushed stack (set stack top word) top (top + 1) w depth
+  is-pushed z = record { word = word; is = is; stored = refl; last = λ q. absurd (z q); more = λ q. refl }
 
 pub cell-kept : (c known : ℕ) → c ≤ 32768 → c < 32768 → (c ≡ numbered c known) × (c < 65536)
-cell-kept c known l h = (sym (ap (λ (b : Bool). pickCell b c (c + known)) (lt-ltb c 32768 h)), omega arith)
+cell-kept c known l h = (sym (ap (λ (b : Bool). pick b c (c + known)) (lt-ltb c 32768 h)), omega arith)
 
 pub cell-numbered : (c known : ℕ) → c ≤ 32768 → known ≤ 32 → 32768 ≤ c → (c + known ≡ numbered c known) × (c + known < 65536)
-cell-numbered c known l k h = (sym (ap (λ (b : Bool). pickCell b c (c + known)) (le-ltb c 32768 h)), omega arith)
+cell-numbered c known l k h = (sym (ap (λ (b : Bool). pick b c (c + known)) (le-ltb c 32768 h)), omega arith)
 
 -- ---- a node of forms
 

@@ -7,6 +7,7 @@ use native.Mathlib.Omega.{arith}
 use lib.ListN.{length, getD, set, take, length-take, replicate, length-append, length-replicate}
 use native.Mathlib.Decide.{ℕ-discrete}
 use lib.Seq.{getD-take, getD-set-same, getD-set-other, ext-getD}
+use Rattle.deciding.specs.Deciding.{Decides}
 use Rattle.layout.specs.Layout.{mapWords, linksAt, treeWords, bookWords}
 use Rattle.bits.specs.Packed.{bits}
 use Rattle.term.specs.Counting.{true≢false}
@@ -19,7 +20,7 @@ use Rattle.tree.specs.Stops.{Stop, stop, Standing, set-off, go-end, go-back}
 use Rattle.book.specs.Memory.{view, Passing}
 use Rattle.passing.specs.Promises.{Checks}
 use Rattle.passing.specs.Walk.{Told, Bare, ended-right, right-ended}
-use Rattle.passing.specs.State.{Kept, none, more, Stacked, Low, AtPlace, Found, Sizes, Decides, Over, Popped, Clear}
+use Rattle.passing.specs.State.{Kept, none, more, Stacked, Low, AtPlace, Found, Sizes, Over, Popped, Clear}
 use Rattle.book.specs.Looking.{inside, nodes-low}
 use Rattle.passing.proofs.Downing.{kept-back}
 
@@ -56,8 +57,8 @@ answers-no ws n = record { yes = λ q. absurd (true≢false q refl); no = λ q p
 
 pub walked : (ws left : List ℕ) → length ws ≡ bookWords → Walking (view ws .tree) Bare (Told (view ws)) [] (marked left) → (r : Bool) → Decides (Clear left) r → Checks ws r
 walked ws left size w r d = record {
-  yes = λ q. found-passes ws size (ended (view ws .tree) Bare (Told (view ws)) (marked left) w (d .0 q));
-  no = λ q p. let f = right-ended (view ws) (nodes-low ws size) (p .right) in d .1 q (λ n. gone f n (marked left n) refl);
+  yes = λ q. found-passes ws size (ended (view ws .tree) Bare (Told (view ws)) (marked left) w (d .yes q));
+  no = λ q p. let f = right-ended (view ws) (nodes-low ws size) (p .right) in d .no q (λ n. gone f n (marked left n) refl);
 }
   where
     gone : Found ws → (n : ℕ) (b : Bool) → marked left n ≡ b → marked left n ≡ false

@@ -2,6 +2,7 @@
 pub mod Checking
 pub mod Coming
 pub mod Downing
+pub mod Behind
 pub mod Ruling
 pub mod Along
 pub mod Ending

@@ -8,11 +8,12 @@ use native.Mathlib.Omega.{arith}
 use native.Mathlib.Decide.{ℕ-discrete, decLt}
 use lib.Bits.{bitOr, or-add-and, and-le-l, and-le-r}
 use lib.ListN.{length, getD, List·getD-eq-default}
+use Rattle.deciding.specs.Deciding.{Decides}
 use Rattle.layout.specs.Layout.{termWords}
 use Rattle.bits.specs.Packed.{fields}
-use Rattle.bits.specs.Laws.{get-unpack}
+use Rattle.bits.specs.Laws.{get-unpack, field-at}
 use Rattle.term.specs.Counting.{true≢false}
-use Rattle.passing.specs.State.{blanks, numbered, wordOf, Kept, none, more, Low, TermOf, Decides, Plain, PlainOf, TermDecided}
+use Rattle.passing.specs.State.{blanks, numbered, wordOf, Kept, none, more, Low, TermOf, Plain, PlainOf, TermDecided}
 use Rattle.passing.proofs.Downing.{blanks-low, kept-word}
 use Rattle.passing.proofs.Ruling.{numbered-low}
 use Rattle.passing.proofs.Plainly.{plain-term}
@@ -126,11 +127,6 @@ kept-first (more a b h k) = kept-first k
 abbrev pub lastOf : List ℕ → ℕ → ℕ
 lastOf way depth = (getD way depth 0 * 2 ^ ((8 - depth) % 4 * 16)) % 2 ^ 64
 
-field-at : (ws : List ℕ) (q k : ℕ) → q * 4 ≤ k → k < q * 4 + 4 → getD (fields ws) k 0 ≡ getD ws q 0 / 2 ^ ((3 - k % 4) * 16) % 2 ^ 16
-field-at ws q k a b =
-    let e : k / 4 ≡ q = omega arith in
-    get-unpack 16 4 ws k (3 - k % 4) (omega arith) ∙ ap (λ (i : ℕ). getD ws i 0 / 2 ^ ((3 - k % 4) * 16) % 2 ^ 16) e
-
 empty-at : (ws : List ℕ) (k : ℕ) → getD ws (k / 4) 0 ≡ 0 → getD (fields ws) k 0 ≡ 0
 empty-at ws k e =
     get-unpack 16 4 ws k (3 - k % 4) (omega arith) ∙ ap (λ (z : ℕ). z / 2 ^ ((3 - k % 4) * 16) % 2 ^ 16) e ∙ ap (λ (z : ℕ). z % 2 ^ 16) (zero-div (2 ^ ((3 - k % 4) * 16)))
@@ -187,4 +183,4 @@ module _ (words way : List ℕ) (depth : ℕ) where
   plainly eight p = record { yes = λ q ks row kept low deep whole. plain-term words way ks row depth eight kept low deep whole (p ks row kept low deep); no = λ q. absurd (true≢false refl q) }
 
   pub by-cells : (r : Bool) → Decides (TermOf words way depth) r → TermDecided words way depth r
-  by-cells r d = record { yes = λ q ks row kept low deep whole. d .0 q; no = d .1 }
+  by-cells r d = record { yes = λ q ks row kept low deep whole. d .yes q; no = d .no }

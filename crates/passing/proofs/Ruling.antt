@@ -9,26 +9,22 @@ use borrow.Author.Tests.{lt-ltb, le-ltb}
 use lib.Dec.{ltb}
 use lib.ListN.{length, getD, take, drop, length-take, length-map, length-reverse, List·getD-append}
 use lib.Seq.{ext-getD, getD-take, getD-append-add}
+use Rattle.deciding.specs.Deciding.{pick, Decides, decided, denied}
 use Rattle.layout.specs.Layout.{ruleNumbers, rulesLimit, rulesAt, placesAt, placeWords, termWords, recordWords, recordsAt, termsAt}
-use Rattle.bits.specs.Packed.{fields, Zeros}
+use Rattle.bits.specs.Packed.{fields}
 use Rattle.term.specs.Counting.{true≢false}
 use Rattle.term.specs.Reading.{readTerm}
 use Rattle.term.specs.declared.reading.Reading.the-variants.{Whole}
 use Rattle.term.specs.Whole.{whole-term}
+use Rattle.book.specs.Filling.{Zeros}
 use Rattle.book.specs.Memory.{view, number, term, form, blankNumber}
 use Rattle.book.specs.Forms.{Side, symbol, variable, side}
 use Rattle.tree.specs.Words.{cellOf}
 use Rattle.passing.specs.Promises.{IsWhole}
 use Rattle.passing.specs.Walk.{Hangs}
-use Rattle.passing.specs.State.{blanks, pickCell, numbered, wordOf, Kept, none, more, Low, TermOf, Decides, TermDecided, RuleAt, RuleDecided}
+use Rattle.passing.specs.State.{blanks, numbered, wordOf, Kept, none, more, Low, TermOf, TermDecided, RuleAt, RuleDecided}
 use Rattle.passing.proofs.Downing.{blanks-low}
 use Rattle.book.specs.Looking.{rule-number}
-
-pub refuted : {A : Type 0} → ¬ A → Decides A false
-refuted n = ((λ q. absurd (true≢false q refl)), λ q. n)
-
-pub proved : {A : Type 0} → A → Decides A true
-proved a = ((λ q. a), λ q. absurd (true≢false refl q))
 
 -- ---- blank by blank
 
@@ -43,26 +39,26 @@ same-on cells way i a b h ea eb e j l = go (ℕ-discrete j i)
     go (no q) = h j (omega arith)
 
 pub same-not : (cells way : List ℕ) (depth i a b : ℕ) → i < depth → a ≡ blankNumber (getD cells i 0) → b ≡ blankNumber (getD way (i + 1) 0 % 65536) → ¬ (a ≡ b) → Decides (SameTo cells way depth) false
-same-not cells way depth i a b l ea eb n = refuted (λ h. n (ea ∙ h i l ∙ sym eb))
+same-not cells way depth i a b l ea eb n = denied (λ h. n (ea ∙ h i l ∙ sym eb))
 
 pub same-all : (cells way : List ℕ) (depth i : ℕ) → depth ≤ i → SameTo cells way i → Decides (SameTo cells way depth) true
-same-all cells way depth i l h = proved (λ j q. h j (omega arith))
+same-all cells way depth i l h = decided (λ j q. h j (omega arith))
 
 -- ---- a record
 
 module _ (words way : List ℕ) (depth : ℕ) where
   pub not-clean : (b : Bool) → (b ≡ false → Zeros (fields words) depth → ⊥) → b ≡ false → Decides (TermOf words way depth) false
-  not-clean b h e = refuted (λ t. h e (t .clean))
+  not-clean b h e = denied (λ t. h e (t .clean))
 
   module _ (cells : List ℕ) (ec : cells ≡ fields words) where
     pub not-whole : (b : Bool) → IsWhole cells depth b → b ≡ false → Decides (TermOf words way depth) false
-    not-whole b w e = refuted (λ t. w .no e (ap readTerm ec ∙ t .whole))
+    not-whole b w e = denied (λ t. w .no e (ap readTerm ec ∙ t .whole))
 
     pub is-term : (z : Zeros (fields words) depth) (b : Bool) → IsWhole cells depth b → b ≡ true → (r : Bool) → Decides (SameTo cells way depth) r → Decides (TermOf words way depth) r
-    is-term z b w e r d = (
-      (λ q. record { whole = ap readTerm (sym ec) ∙ w .yes e; clean = z; same = λ j l. ap (λ (x : List ℕ). blankNumber (getD x j 0)) (sym ec) ∙ d .0 q j l }),
-      (λ q t. d .1 q (λ j l. ap (λ (x : List ℕ). blankNumber (getD x j 0)) ec ∙ t .same j l)),
-    )
+    is-term z b w e r d = record {
+      yes = λ q. record { whole = ap readTerm (sym ec) ∙ w .yes e; clean = z; same = λ j l. ap (λ (x : List ℕ). blankNumber (getD x j 0)) (sym ec) ∙ d .yes q j l };
+      no = λ q t. d .no q (λ j l. ap (λ (x : List ℕ). blankNumber (getD x j 0)) ec ∙ t .same j l);
+    }
 
 -- ---- the way's cells are those of the row, but for the numbers of its blanks
 
@@ -77,13 +73,13 @@ unnumbered c k h = go (side c)
         by (variable q e n) = n
 
     go : Side c → blankNumber (numbered c k) ≡ c
-    go (symbol l e n) = ap (λ (b : Bool). blankNumber (pickCell b c (c + k))) (lt-ltb c 32768 l) ∙ n
-    go (variable l e n) = ap (λ (b : Bool). blankNumber (pickCell b c (c + k))) (le-ltb c 32768 l) ∙ big (c + k) (omega arith) ∙ omega arith
+    go (symbol l e n) = ap (λ (b : Bool). blankNumber (pick b c (c + k))) (lt-ltb c 32768 l) ∙ n
+    go (variable l e n) = ap (λ (b : Bool). blankNumber (pick b c (c + k))) (le-ltb c 32768 l) ∙ big (c + k) (omega arith) ∙ omega arith
 
 pub numbered-low : (c k : ℕ) → c ≤ 32768 → k ≤ 32 → numbered c k < 65536
 numbered-low c k h l = go (ltb c 32768)
   where
-    go : (b : Bool) → pickCell b c (c + k) < 65536
+    go : (b : Bool) → pick b c (c + k) < 65536
     go true = omega arith
     go false = omega arith
 

@@ -7,12 +7,13 @@ use native.Mathlib.Omega.{arith}
 use borrow.Author.Tests.{ltb-true, ltb-false, le-ltb, lt-leb}
 use lib.Dec.{ltb}
 use lib.ListN.{length}
+use Rattle.deciding.specs.Deciding.{pick}
 use Rattle.term.specs.Reading.{variable, takes, goOn, readFrom, readTerm}
 use Rattle.term.specs.declared.reading.Taken.{Taken}
 use Rattle.term.specs.declared.reading.Taken.the-variants.{Wants}
 use Rattle.term.specs.declared.reading.Reading.the-variants.{Whole}
 use Rattle.passing.specs.Walk.{wants}
-use Rattle.passing.specs.State.{blanks, pickCell, numbered, Low}
+use Rattle.passing.specs.State.{blanks, numbered, Low}
 
 -- a row is read backwards, as the walk has it
 abbrev pub general : List ℕ → List ℕ
@@ -29,7 +30,7 @@ takes-numbered : (c k : ℕ) → c ≤ 32768 → k ≤ 15 → takes k (numbered 
 unfolding takes
 takes-numbered c k h l = go (ltb c 32768) refl
   where
-    go : (b : Bool) → ltb c 32768 ≡ b → takes k (pickCell b c (c + k)) ≡ Wants (c / 4096 % 8) (c / 32768 + k)
+    go : (b : Bool) → ltb c 32768 ≡ b → takes k (pick b c (c + k)) ≡ Wants (c / 4096 % 8) (c / 32768 + k)
     go true e = let q = ltb-true c 32768 e in rw e (ap₂ Wants (omega arith) (omega arith))
     go false e =
         let q = ltb-false c 32768 e in

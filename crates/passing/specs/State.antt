@@ -5,8 +5,9 @@ use mathlib.Core.Bool.{Bool, true, false}
 use Prim.Native.Nat.{ℕ, zero, suc, _+_, _-_, _*_, _/_, _%_, _≤_, _<_}
 use lib.Dec.{ltb}
 use lib.ListN.{length, getD, set, take, drop}
+use Rattle.deciding.specs.Deciding.{pick}
 use Rattle.layout.specs.Layout.{ruleNumbers, nodesLimit, mapWords, linksAt, lastLink, termWords, recordWords, termsAt, bookWords}
-use Rattle.bits.specs.Packed.{fields, Zeros}
+use Rattle.bits.specs.Packed.{fields}
 use Rattle.term.specs.Reading.{readTerm}
 use Rattle.term.specs.declared.reading.Reading.the-variants.{Whole}
 use Rattle.tree.specs.Shape.{Shape, Place, to, owner, floor}
@@ -15,6 +16,7 @@ use Rattle.tree.specs.Words.{cellOf, parentOf, firstOf, nextOf, Node}
 use Rattle.tree.specs.Promises.{Marked}
 use Rattle.tree.specs.Down.{Ended}
 use Rattle.tree.specs.Stops.{Stop, stop, Standing}
+use Rattle.book.specs.Filling.{Zeros}
 use Rattle.book.specs.Memory.{view, number, blankNumber}
 use Rattle.passing.specs.Walk.{wants, Told, Bare}
 
@@ -28,12 +30,8 @@ abbrev pub counts : List ℕ → ℕ
 counts r = blanks r * 65536 + wants r
 
 -- a cell of the most general term of a form: its blanks are the variables 0, 1, 2 ..
-abbrev pub pickCell : Bool → ℕ → ℕ → ℕ
-pickCell true c d = c
-pickCell false c d = d
-
 abbrev pub numbered : (c known : ℕ) → ℕ
-numbered c known = pickCell (ltb c 32768) c (c + known)
+numbered c known = pick (ltb c 32768) c (c + known)
 
 -- the last four cells of the most general term, as a record has them
 abbrev pub wordOf : List ℕ → ℕ
@@ -131,9 +129,6 @@ pub record TermOf (words way : List ℕ) (depth : ℕ) : Type 0 where
   pub whole : readTerm (fields words) ≡ Whole depth
   pub clean : Zeros (fields words) depth
   pub same : (j : ℕ) → j < depth → blankNumber (getD (fields words) j 0) ≡ blankNumber (getD way (j + 1) 0 % 65536)
-
-abbrev pub Decides : Type 0 → Bool → Type 0
-Decides A r = (r ≡ true → A) × (r ≡ false → ¬ A)
 
 -- The words of a record are those of the way, cell by cell, and zeros: then it is the most general term of the way's form
 pub record Plain (words way : List ℕ) (depth : ℕ) : Type 0 where

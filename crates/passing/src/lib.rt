@@ -2,14 +2,16 @@
 // last node of the way that has a next sibling. A node that is come to is taken from those left, so no walk is longer than the maps
 // have bits, and its time goes with the nodes and the rules held.
 pub mod rule;
+pub mod tail;
 
 ghost use mathlib.Core.Path.{_≡_};
 ghost use mathlib.Core.Bool.{false};
 ghost use Prim.Native.Nat.{_%_, _≤_, _<_};
 ghost use lib.ListN.{length, getD, take};
+ghost use Rattle.deciding.specs.Deciding.{Decides};
 ghost use Rattle.layout.specs.Layout.{mapWords, lastLink, bookWords};
 ghost use Rattle.passing.specs.Promises.{Checks};
-ghost use Rattle.passing.specs.State.{numbered, AtPlace, Sizes, Come, Pushed, Entered, Downed, Decides, RuleEntered, Ruled, Clear, Popped};
+ghost use Rattle.passing.specs.State.{numbered, AtPlace, Sizes, Come, Pushed, Entered, Downed, RuleEntered, Ruled, Clear, Popped};
 use book::Book;
 
 // The mark of a blank, as wide as the cell of a word.
@@ -49,7 +51,7 @@ fn push(stack: &mut [u64], top: usize, w: u64, depth: usize) -> usize
     requires { ⌜ (length (now stack) ≡ 33) × (top ≤ 32) × (depth ≤ 32) ⌝ }
     ensures { λ r. ⌜ Pushed (now (stack .entry)) (now (stack .exit)) top r w depth ⌝ }
 {
-    stack[top] = w / 4294967296 * 4294967296 + depth as u64 * 65536 + w % 65536;
+    stack[top] = tree::with_first(w, depth as u64);
     if w % 65536 == 0 {
         return top;
     }

@@ -3,11 +3,12 @@ ghost use mathlib.Core.Path.{_≡_};
 ghost use mathlib.Core.Bool.{true};
 ghost use Prim.Native.Nat.{ℕ, _+_, _%_, _≤_, _<_};
 ghost use lib.ListN.{length, getD};
+ghost use Rattle.deciding.specs.Deciding.{Decides};
 ghost use Rattle.layout.specs.Layout.{rulesLimit, rulesAt, termWords, bookWords};
 ghost use Rattle.passing.specs.Promises.{IsWhole};
 ghost use Rattle.book.specs.Memory.{blankNumber};
 ghost use Rattle.tree.specs.Words.{cellOf};
-ghost use Rattle.passing.specs.State.{TermOf, Decides, PlainOf, TermDecided, RuleDecided};
+ghost use Rattle.passing.specs.State.{TermOf, PlainOf, TermDecided, RuleDecided};
 use term::reading;
 use term::reading::Reading;
 
@@ -45,7 +46,7 @@ fn is_term(words: &[u64], way: &[u64], depth: usize) -> bool
     requires { ⌜ (length (now words) ≡ termWords) × (length (now way) ≡ 33) × (depth ≤ 32) ⌝ }
     ensures { λ r. ⌜ Decides (TermOf (now (words .entry)) (now (way .entry)) depth) r ⌝ }
 {
-    if !bits::zeros_from(words, depth) {
+    if !crate::tail::zeros_from(words, depth) {
         return false;
     }
     let cells = book::record::load_term(words, depth);

@@ -63,7 +63,7 @@ fn pack(c: u64, p: u64, f: u64, x: u64) -> u64
     c * 281474976710656 + p * 4294967296 + f * 65536 + x
 }
 
-fn with_first(w: u64, x: u64) -> u64
+pub fn with_first(w: u64, x: u64) -> u64
     requires { ⌜ x < 65536 ⌝ }
     ensures { λ r. ⌜ Node r (cellOf w) (parentOf w) x (nextOf w) ⌝ }
 {

@@ -6,10 +6,10 @@ use Rattle.change.proofs.put_signs.Tie as tie
 
 returns : tie.Need-returns
 returns c =
-    let k₃ = c .before .before in
-    let k₂ = k₃ .before .before .before .before in
-    let k₁ = k₂ .before .before .before .before in
-    k₃ .put-sign3 .ensures ∙ k₂ .put-sign2 .ensures ∙ k₁ .put-sign .ensures ∙ k₁ .before .before .before .before .put-last .ensures
+    let k₄ = c .before .before in
+    let k₃ = k₄ .before .before .before .before .before .before in
+    let k₂ = k₃ .before .before .before .before .before .before in
+    k₄ .put-sign4 .ensures ∙ k₃ .put-sign3 .ensures ∙ k₂ .put-sign2 .ensures ∙ k₂ .before .before .before .before .before .before .put-sign .ensures
 
 pub put-signs-spec : {M : Type 1} → statement M
 put-signs-spec =
@@ -19,6 +19,13 @@ put-signs-spec =
     (λ c. search needs)
     (λ c. search needs)
     (λ c. search needs)
+    (λ c κs. search needs)
+    (λ c. search needs)
+    (λ c. search needs)
+    (λ c. search needs)
+    (λ c κs. search needs)
+    (λ c κs. search needs)
+    (λ c κs. search needs)
     (λ c κs. search needs)
     (λ c κs. search needs)
     (λ c κs. search needs)

@@ -6,7 +6,7 @@ use Rattle.passing.proofs.rule.is_term.Statement.{statement}
 use Rattle.passing.proofs.rule.is_term.Tie as tie
 use Rattle.passing.proofs.rule.is_term.Reads as reads
 use Rattle.passing.proofs.rule.is_term.Lts as lts
-use Rattle.bits.proofs.zeros_from.Reads as zeros-from-reads
+use Rattle.passing.proofs.tail.zeros_from.Reads as zeros-from-reads
 use Rattle.passing.proofs.rule.is_whole.Reads as is-whole-reads
 use Rattle.book.proofs.record.load_term.Reads as load-term-reads
 use Rattle.passing.proofs.rule.same_blanks.Reads as same-blanks-reads
@@ -15,10 +15,10 @@ zeros-from-requires : tie.Need-zeros-from-requires
 zeros-from-requires c κs = search needs
 
 returns : tie.Need-returns
-returns c = let s = c .before .before .before .before in let z = c .before .zeros-from in not-clean (s .args .words .now) (s .args .way .now) (s .args .depth) (z .result) (z .ensures .1) (not-true _ (c .if1 .taken))
+returns c = let s = c .before .before .before .before in let z = c .before .zeros-from in not-clean (s .args .words .now) (s .args .way .now) (s .args .depth) (z .result) (z .ensures .no) (not-true _ (c .if1 .taken))
 
 load-term-requires : tie.Need-load-term-requires
-load-term-requires c κs = let s = c .before .before .before .before in (s .pre .0, (s .pre .2, c .before .zeros-from .ensures .0 (not-false _ (c .if1 .left))))
+load-term-requires c κs = let s = c .before .before .before .before in (s .pre .0, (s .pre .2, c .before .zeros-from .ensures .yes (not-false _ (c .if1 .left))))
 
 slice-aggregate-is-whole : tie.Need-slice-aggregate-is-whole
 slice-aggregate-is-whole c = search needs
@@ -40,7 +40,7 @@ returns-3 c =
     let s = c .before .before .before .before .before .before .before .before .before .before in
     let w = c .before .before .before .is-whole in
     let l = c .before .before .before .before .before .load-term in
-    is-term (s .args .words .now) (s .args .way .now) (s .args .depth) (l .result) (l .ensures) (c .before .before .before .before .before .before .before .zeros-from .ensures .0 (not-false _ (c .before .before .before .before .before .before .if1 .left))) (w .result) (w .ensures) (not-false _ (c .before .before .if2 .left)) (c .same-blanks .result) (c .same-blanks .ensures)
+    is-term (s .args .words .now) (s .args .way .now) (s .args .depth) (l .result) (l .ensures) (c .before .before .before .before .before .before .before .zeros-from .ensures .yes (not-false _ (c .before .before .before .before .before .before .if1 .left))) (w .result) (w .ensures) (not-false _ (c .before .before .if2 .left)) (c .same-blanks .result) (c .same-blanks .ensures)
 
 pub is-term-spec : {M : Type 1} → statement M
 is-term-spec =

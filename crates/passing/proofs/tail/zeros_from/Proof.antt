@@ -2,23 +2,25 @@
 use Prim.Native.Nat.{_-_, _/_}
 use native.Mathlib.Omega.{arith}
 use borrow.Author.Needs.{needs}
-use Rattle.bits.proofs.Comparing.{Clear, clear-first, clear-more, clear-end, clear-past, not-first, not-here, first-and-rest, no-yes, no-no}
-use Rattle.bits.proofs.zeros_from.Statement.{statement}
-use Rattle.bits.proofs.zeros_from.Tie as tie
+use Rattle.deciding.specs.Deciding.{decided, denied}
+use Rattle.layout.specs.Layout.{termWords}
+use Rattle.passing.proofs.Behind.{ClearTo, clear-first, clear-more, clear-end, clear-past, not-first, not-here, first-and-rest}
+use Rattle.passing.proofs.tail.zeros_from.Statement.{statement}
+use Rattle.passing.proofs.tail.zeros_from.Tie as tie
 
 abbrev Inv-loop : tie.InvT-loop
-Inv-loop words from i₀ i = Clear words from i
+Inv-loop words from i₀ i = ClearTo words from i
 
 abbrev μ-loop : tie.MeasureT-loop
-μ-loop words from i₀ i = 8 - i
+μ-loop words from i₀ i = termWords - i
 
 returns : tie.Need-returns Inv-loop μ-loop
-returns c = let s = c .before .before in ((λ e. clear-past (s .args .words .now) (s .args .from) (omega (arith, s .pre, c .if1 .taken))), λ e z. no-no e)
+returns c = let s = c .before .before in decided (clear-past (s .args .words .now) (s .args .from) (omega (arith, s .pre, c .if1 .taken)))
 
 returns-2 : tie.Need-returns-2 Inv-loop μ-loop
 returns-2 c =
     let s = c .before .before .before .before in
-    ((λ e. absurd (no-yes e)), λ e. not-first (s .args .words .now) (s .args .from) (c .before .shared-slice-known2 .given (s .args .from / 4) .fits) (c .if2 .taken))
+    denied (not-first (s .args .words .now) (s .args .from) (c .before .shared-slice-known2 .given (s .args .from / 4) .fits) (c .if2 .taken))
 
 returns-3 : tie.Need-returns-3 Inv-loop μ-loop
 returns-3 c =
@@ -29,7 +31,7 @@ returns-4 : tie.Need-returns-4 Inv-loop μ-loop
 returns-4 c =
     let l = c .before .before .before .loop in
     let s = c .before .before .before .before .before .before .before .before .before in
-    ((λ e. absurd (no-yes e)), λ e. not-here (s .args .words .now) (s .args .from) (l .i) (c .before .shared-slice-known3 .given (l .i) .fits) (l .inv) (c .if4 .taken))
+    denied (not-here (s .args .words .now) (s .args .from) (l .i) (c .before .shared-slice-known3 .given (l .i) .fits) (l .inv) (c .if4 .taken))
 
 loop-again : tie.Need-loop-again Inv-loop μ-loop
 loop-again c =
@@ -41,7 +43,7 @@ returns-5 : tie.Need-returns-5 Inv-loop μ-loop
 returns-5 c =
     let s = c .before .before .before .before .before .before .before in
     let l = c .before .loop in
-    ((λ e. clear-end (s .args .words .now) (s .args .from) (l .i) (l .inv) (omega (arith, s .pre, c .loop-test .left))), λ e z. no-no e)
+    decided (clear-end (s .args .words .now) (s .args .from) (l .i) (l .inv) (omega (arith, s .pre, c .loop-test .left)))
 
 pub zeros-from-spec : {M : Type 1} → statement M
 zeros-from-spec =
