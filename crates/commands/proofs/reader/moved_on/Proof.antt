@@ -18,7 +18,7 @@ use contract.Monad.{Fun, fact}
 use contract.Running.{givenOf, tables, tablesOf}
 use types.Kit.{Given, Item, ‵, raw, _⊛_, ⋆, _$_, _∵_, !, qed, by, move, drop, use1, use2, split, join, fsplit, fjoin, suffices, frame, rewrite, done}
 use types.Part.{whole, sub, look-in, agg}
-use types.Run.{look, init, from, of-opd, no-more, assigns, land, returns, enter, alloc1, alloc0, params1, pass1, pass0}
+use types.Run.{look, init, of-opd, no-more, assigns, land, returns, enter, alloc1, alloc0, params1, pass1, pass0}
 use sound.WpLaws.{FmC, fmOf, WpFn-mono}
 use denote.RattleType.{owns}
 use denote.Laws.{Is, shows}

@@ -22,7 +22,7 @@ use contract.Monad.{Fun, fact}
 use contract.Running.{givenOf, tables, tablesOf}
 use types.Kit.{Given, Item, ‵, raw, _⊛_, ⋆, _$_, _∵_, !, qed, by, move, drop, use1, use2, use3, split, join, fsplit, fjoin, suffices, frame, rewrite, done}
 use types.Part.{whole, sub, look-in}
-use types.Run.{look, init, from, of-opd, no-more, assigns, land, returns, enter, alloc1, alloc0, params1, pass1, pass0}
+use types.Run.{look, init, of-opd, no-more, assigns, land, returns, enter, alloc1, alloc0, params1, pass1, pass0}
 use sound.WpLaws.{FmC, fmOf, WpFn-mono}
 use denote.RattleType.{owns}
 use denote.Laws.{Is, shows}
@@ -30,7 +30,6 @@ use denote.Ref.{RefT, NamedLft, now}
 use denote.Steps.{only, peeks, nothing}
 use denote.Enum.Laws as EL
 use denote.Struct.Laws as LL
-use denote.Struct.Rest.{rest}
 use denote.Triple.Statement.{Contract, Triple}
 use denote.Triple.Call.{calls-at}
 use denote.Triple.Entry.{onEntry}
