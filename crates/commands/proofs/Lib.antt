@@ -1,2 +1,4 @@
 -- What the proofs share.
 pub mod Copying
+pub mod Walking
+pub mod Readers

@@ -59,8 +59,8 @@ module _ {M : Type 1} {𝓤 : URA M} where
 module _ {M : Type 1} {𝓤 : URA M} {H : Heap 𝓤} {A : Atoms 𝓤} {K : Type 0} {W : Given 𝓤 H A} where
   module _ {Γ : List (Item 𝓤)} {E : Env 𝓤 H} where
     -- the place is a local
-    pub here : K → {i : ℕ} → Finds K W Γ E (place i []) (spotOf 𝓤 H E i)
-    here t = from t (stop t)
+    pub slot : K → {i : ℕ} → Finds K W Γ E (place i []) (spotOf 𝓤 H E i)
+    slot t = from t (stop t)
 
     -- a local is read: it is the entry n
     pub local : K → (n : ℕ) {i : ℕ} {q : Share} {v : Val} → nth 𝓤 H A n Γ ≡ ‵ (fat q (spotOf 𝓤 H E i .0) (spotOf 𝓤 H E i .1) (spotOf 𝓤 H E i .2) v)

@@ -55,7 +55,7 @@ use Rattle.questions.specs.declared.Point.{Point}
 use Rattle.questions.specs.Promises.{IsRoot, Searched}
 use Rattle.questions.proofs.Point as T
 use Rattle.questions.proofs.Point.Laws as T′
-use Rattle.questions.proofs.Walking.{Locals, joined, fresh, filled, here, local, part, pass, frees-all}
+use Rattle.questions.proofs.Walking.{Locals, joined, fresh, filled, slot, local, part, pass, frees-all}
 use Rattle.questions.proofs.Lending.{R, τ, list-lies, list-gone, point-fits, point-owned, flag-owned, shared-twice, point-out, point-put}
 use Rattle.questions.proofs.root as root
 use Rattle.questions.proofs.root.Symbol as root-def
@@ -262,15 +262,15 @@ module _ {M : Type 1} (𝓤 : URA M) (H : Heap 𝓤) (A : Atoms 𝓤) (W : Given
     lends : (r : Point) → IsRoot (m .now) r → Is R r (T′.lowered r ∷ [])
         → Seq (Go {0}) W (‵ (flft κ₀ q₀) ∷ ‵ Om ∷ With-root r (‵ Oq ∷ ‵ (flft κ₁ q₁) ∷ ‵ Ok ∷ ‵ (flft κ₂ q₂) ∷ [])) (runs (𝓣 .C) (𝓣 .Λ) En after-root (atRet En Post))
     lends r is-root gr =
-        assigns ! (agg ! (and-then ! (lit ! tt) (and-then ! (lit ! tt) (and-then ! (lit ! tt) (no-more !))))) (here !)
+        assigns ! (agg ! (and-then ! (lit ! tt) (and-then ! (lit ! tt) (and-then ! (lit ! tt) (no-more !))))) (slot !)
         (init ! 18 refl (point-fits 𝓤 H A W none is-none)) $
         point-owned ! none is-none $
         use1 W (‵ (Array R 36 .own zs (v ∷ []))) (array-repeat 𝓤 H A W R (LL.copy T.the-type T′.the-copy 𝓤 H A W) 36 none (T′.lowered none)) $
         peeks ! (Array R 36) (Is (Array R 36)) (shows 𝓤 H A (Array R 36)) zs (v ∷ []) (λ is.
-        assigns ! (rep ! 36 (local ! 19 refl)) (here !) (init ! 17 refl (array-typed R (LL.lawful T.the-type T′.the-laws 𝓤 H A W .typed) 36 zs _ is .0)) $
+        assigns ! (rep ! 36 (local ! 19 refl)) (slot !) (init ! 17 refl (array-typed R (LL.lawful T.the-type T′.the-laws 𝓤 H A W .typed) 36 zs _ is .0)) $
         -- the root is stored in the first place
-        assigns ! (addr ! (here !)) (here !) (init ! 15 refl (tt, tt)) $
-        assigns ! (bin ! (local ! 15 refl) (lit ! tt) tt) (here !) (init ! 13 refl (tt, tt)) $
+        assigns ! (addr ! (slot !)) (slot !) (init ! 15 refl (tt, tt)) $
+        assigns ! (bin ! (local ! 15 refl) (lit ! tt) tt) (slot !) (init ! 13 refl (tt, tt)) $
         rewrite ! 13 (λ (n : ℕ). ‵ (fat fullShare tyPtr l₁₀ 0 (vptr l₈ n))) (sym (place-is 6 0 0)) refl $
         move ! (17 ∷ 0 ∷ []) $ use2 W (‵ (cells (mem R) zs l₈ 0)) (list-lies 𝓤 H A W l₈ zs v) $
         use1 W (‵ (row R fullShare zs l₈ 0)) (whole-out 𝓤 H A W R zs l₈ 0) $
@@ -278,11 +278,11 @@ module _ {M : Type 1} (𝓤 : URA M) (H : Heap 𝓤) (A : Atoms 𝓤) (W : Given
         assigns ! (of-opd ! (local ! 22 refl)) (from ! (hop ! (look ! 15 refl) (stop !))) (store-raw ! 0 refl (point-fits 𝓤 H A W r gr)) $
         point-put ! zs 0 r l₈ 0 (lit< tt) gr $
         -- the marks and the list are lent
-        assigns ! (addr ! (from ! (fld ! refl (hop ! (look-in ! 22 (sub ! 0 refl (whole !))) (stop !))))) (here !) (init ! 9 refl (tt, tt)) $
-        assigns ! (agg ! (pass ! 9 refl (and-then ! (part ! refl (look-in ! 22 (sub ! 1 refl (whole !)))) (no-more !)))) (here !)
+        assigns ! (addr ! (from ! (fld ! refl (hop ! (look-in ! 22 (sub ! 0 refl (whole !))) (stop !))))) (slot !) (init ! 9 refl (tt, tt)) $
+        assigns ! (agg ! (pass ! 9 refl (and-then ! (part ! refl (look-in ! 22 (sub ! 1 refl (whole !)))) (no-more !)))) (slot !)
         (init ! 7 refl (tt, (tt, (record { fits = room-k .0 }, tt)))) $
-        assigns ! (addr ! (here !)) (here !) (init ! 5 refl (tt, tt)) $
-        assigns ! (agg ! (pass ! 5 refl (and-then ! (lit ! tt) (no-more !)))) (here !) (init ! 3 refl (tt, (tt, (record { fits = lit< tt }, tt)))) $
+        assigns ! (addr ! (slot !)) (slot !) (init ! 5 refl (tt, tt)) $
+        assigns ! (agg ! (pass ! 5 refl (and-then ! (lit ! tt) (no-more !)))) (slot !) (init ! 3 refl (tt, (tt, (record { fits = lit< tt }, tt)))) $
         use1 W (‵ (cells (mem R) (xs r) l₈ 0)) (whole-in 𝓤 H A W R (xs r) l₈ 0) $ lft-new ! tt (λ α. move ! (1 ∷ []) $
         use1 W (later (some (λ (γ : GName). ‵ (MutSlice (named 3) (α ∷ []) R .own (xl r γ) (sliceVal (l₈, 0) 36 ∷ [])) ⊛ ‵ (flent (α ∷ []) (Held R 36 l₈ 0 γ)))))
         (lends-slice 𝓤 H A W R (named 3) (α ∷ []) (xs r) l₈ 0 (lit< tt, lit< tt)) $ await ! tt $ pick ! (λ γ.
@@ -299,12 +299,12 @@ module _ {M : Type 1} (𝓤 : URA M) (H : Heap 𝓤) (A : Atoms 𝓤) (W : Given
         fsplit ! $ drop ! $ fsplit ! $ drop ! $ fsplit ! $ drop ! $ fsplit ! $ drop ! $ fsplit ! $ fsplit ! $ move ! (1 ∷ []) $ feqL ! (λ ek.
         move ! (1 ∷ []) $ fsplit ! $ fsplit ! $ move ! (1 ∷ []) $ feqL ! (λ el. move ! (1 ∷ []) $ drop ! $
         move ! (2 ∷ []) $ split ! $ move ! (1 ∷ []) $ peeks ! unit (Is unit) (shows 𝓤 H A unit) u (w ∷ []) (λ isu.
-        land ! (here !) (init ! 15 refl (nothing-lawful 𝓤 H A W .typed u _ isu .0)) $ drop ! $
+        land ! (slot !) (init ! 15 refl (nothing-lawful 𝓤 H A W .typed u _ isu .0)) $ drop ! $
         split ! $ move ! (1 ∷ []) $ split ! $ move ! (1 ∷ []) $ split ! $ move ! (1 ∷ []) $ split ! $ move ! (1 ∷ []) $ drop ! $
         lft-end ! tt $ move ! (0 ∷ 8 ∷ 4 ∷ []) $
         use3 W (later (‵ (Arr (mem R) 36 .lies (fs .1 .1 .1 .1 .1 .0) l₈ 0))) (slice-back 𝓤 H A W R (α ∷ []) γ (fs .1 .1 .1 .1 .1 .0) 36 l₈ 0) $
         await ! tt $ fsplit ! $ feqL ! (λ len. use1 W (‵ (froom τ l₈ 0)) (list-gone 𝓤 H A W l₈ (fs .1 .1 .1 .1 .1 .0) len) $
-        assigns ! (of-opd ! (unit-lit !)) (here !) (init ! 36 refl (tt, tt)) $ returns ! (look ! 36 refl) $
+        assigns ! (of-opd ! (unit-lit !)) (slot !) (init ! 36 refl (tt, tt)) $ returns ! (look ! 36 refl) $
         forget ! 36 refl $ forget ! 34 refl $ forget ! 32 refl $ forget ! 30 refl $ forget ! 28 refl $ forget ! 26 refl $ forget ! 24 refl $ forget ! 22 refl $
         forget ! 19 refl $ forget ! 17 refl $ forget ! 15 refl $ forget ! 13 refl $ forget ! 11 refl $ forget ! 9 refl $ forget ! 7 refl $
         move ! (36 ∷ 37 ∷ 34 ∷ 35 ∷ 32 ∷ 33 ∷ 30 ∷ 31 ∷ 28 ∷ 29 ∷ 26 ∷ 27 ∷ 24 ∷ 25 ∷ 22 ∷ 23 ∷ 0 ∷ 21 ∷ 19 ∷ 20 ∷ 17 ∷ 18 ∷ 15 ∷ 16 ∷ 13 ∷ 14 ∷ 11 ∷ 12 ∷ 9 ∷ 10 ∷ 7 ∷ 8 ∷ []) $
@@ -322,7 +322,7 @@ module _ {M : Type 1} (𝓤 : URA M) (H : Heap 𝓤) (A : Atoms 𝓤) (W : Given
         (id⊢ 𝓤 _) $ await ! tt $ pick ! (λ r.
         split ! $ move ! (1 ∷ []) $ use1 W (raw (fact 𝓤 (IsRoot (m .now) r))) (said r) $ heard ! (IsRoot (m .now) r) (λ is-root. split ! $ move ! (1 ∷ []) $
         peeks ! R (Is R) (shows 𝓤 H A R) r (w ∷ []) (λ is.
-        land ! (here !) (init ! 21 refl (point-fits 𝓤 H A W r is)) $
+        land ! (slot !) (init ! 21 refl (point-fits 𝓤 H A W r is)) $
         rewrite ! 21 (λ (u : Val). ‵ (fat fullShare T′.mir l₆ 0 u)) (ap only (LL.tells T.the-type T′.the-laws r _ is)) refl $ drop ! $ split ! $ move ! (1 ∷ []) $ drop ! $
         lends r is-root (subst (Is R r) (LL.tells T.the-type T′.the-laws r _ is) is)))))
 

@@ -59,7 +59,7 @@ use Rattle.questions.specs.declared.Point.{Point}
 use Rattle.questions.specs.declared.Points.{Points}
 use Rattle.questions.specs.Promises.{Steady, Went, Rooted, Searched}
 use Rattle.questions.proofs.Searching.{left, Loop, ends, stood, turned, starts-out}
-use Rattle.questions.proofs.Walking.{Locals, joined, fresh, filled, empty, holding, dying, here, local, part, pass, frees-all}
+use Rattle.questions.proofs.Walking.{Locals, joined, fresh, filled, empty, holding, dying, slot, local, part, pass, frees-all}
 use Rattle.questions.proofs.Lending.{R, Claim, lend-on, take-back, point-fits, point-owned, flag-owned, shared-twice, point-out, point-put}
 use Rattle.questions.proofs.Point as T
 use Rattle.questions.proofs.Point.Laws as T′
@@ -336,18 +336,18 @@ module _ {M : Type 1} (𝓤 : URA M) (H : Heap 𝓤) (A : Atoms 𝓤) (W : Given
           let ut : (depth + 1) * 6 < 2 ^ 64 = omega arith in
           let kin : depth - 1 < length zs = omega arith in
           qed W (At ns zs depth) ∵ exec ! C Λ En round (anyQ (afterTurn 𝓤 H X Left)) $
-          assigns ! (bin ! (lit ! tt) (local ! 7 refl) tt) (here !) (init ! 11 refl (tt, tt)) $
+          assigns ! (bin ! (lit ! tt) (local ! 7 refl) tt) (slot !) (init ! 11 refl (tt, tt)) $
           rewrite ! 11 (λ (t : Bool). ‵ (fat fullShare tyBool l₁₁ 0 (vbool t))) (lt-ltb 0 depth pos) refl $ stays ! (local ! 11 refl) $
-          assigns ! (bin ! (local ! 7 refl) (lit ! tt) one) (here !) (init ! 8 refl (tt, record { fits = kf })) $
-          assigns ! (bin ! (local ! 8 refl) (lit ! tt) (record { fits = kt })) (here !) (init ! 12 refl (tt, record { fits = kt })) $
-          assigns ! (bin ! (part ! refl (look-in ! 26 (sub ! 0 refl (whole !)))) (local ! 12 refl) tt) (here !) (init ! 13 refl (tt, tt)) $
+          assigns ! (bin ! (local ! 7 refl) (lit ! tt) one) (slot !) (init ! 8 refl (tt, record { fits = kf })) $
+          assigns ! (bin ! (local ! 8 refl) (lit ! tt) (record { fits = kt })) (slot !) (init ! 12 refl (tt, record { fits = kt })) $
+          assigns ! (bin ! (part ! refl (look-in ! 26 (sub ! 0 refl (whole !)))) (local ! 12 refl) tt) (slot !) (init ! 13 refl (tt, tt)) $
           rewrite ! 13 (λ (n : ℕ). ‵ (fat fullShare tyPtr l₁₃ 0 (vptr b n))) (sym (place-is 6 o k)) refl $
           point-out ! zs k blank b o kin (λ gp.
-          assigns ! (of-opd ! (load ! (from ! (hop ! (look ! 15 refl) (stop !))) (look-raw ! 0 refl))) (here !) (init ! 16 refl (point-fits 𝓤 H A W p gp)) $
-          assigns ! (of-opd ! (local ! 16 refl)) (here !) (init ! 11 refl (point-fits 𝓤 H A W p gp)) $
+          assigns ! (of-opd ! (load ! (from ! (hop ! (look ! 15 refl) (stop !))) (look-raw ! 0 refl))) (slot !) (init ! 16 refl (point-fits 𝓤 H A W p gp)) $
+          assigns ! (of-opd ! (local ! 16 refl)) (slot !) (init ! 11 refl (point-fits 𝓤 H A W p gp)) $
           elem-back ! R fullShare zs k blank (T′.lowered p ∷ []) b o kin $
-          assigns ! (addr ! (from ! (fld ! refl (hop ! (look-in ! 25 (sub ! 0 refl (whole !))) (stop !))))) (here !) (init ! 15 refl (tt, tt)) $
-          assigns ! (agg ! (pass ! 15 refl (and-then ! (part ! refl (look-in ! 25 (sub ! 1 refl (whole !)))) (no-more !)))) (here !)
+          assigns ! (addr ! (from ! (fld ! refl (hop ! (look-in ! 25 (sub ! 0 refl (whole !))) (stop !))))) (slot !) (init ! 15 refl (tt, tt)) $
+          assigns ! (agg ! (pass ! 15 refl (and-then ! (part ! refl (look-in ! 25 (sub ! 1 refl (whole !)))) (no-more !)))) (slot !)
           (init ! 16 refl (tt, (tt, (record { fits = room-k .0 }, tt)))) $
           -- the marks are lent again
           lft-new ! tt (λ ν. move ! (2 ∷ 3 ∷ []) $
@@ -373,7 +373,7 @@ module _ {M : Type 1} (𝓤 : URA M) (H : Heap 𝓤) (A : Atoms 𝓤) (W : Given
           fsplit ! $ drop ! $ fsplit ! $ drop ! $ fsplit ! $ drop ! $ fsplit ! $ drop ! $ fsplit ! $ fsplit ! $ move ! (1 ∷ []) $ feqL ! (λ len. move ! (1 ∷ []) $ drop ! $
           -- [the last marks; the tokens and the result; question; m; kept; row; _7; …]
           move ! (1 ∷ []) $ split ! $ move ! (1 ∷ []) $ peeks ! P.the-row (Is P.the-row) (shows 𝓤 H A P.the-row) r (w ∷ []) (λ is.
-          land ! (here !) (init ! 10 refl (LL.lawful P.the-type P′.the-laws 𝓤 H A W .typed r _ is .0)) $
+          land ! (slot !) (init ! 10 refl (LL.lawful P.the-type P′.the-laws 𝓤 H A W .typed r _ is .0)) $
           rewrite ! 10 (λ (u : Val). ‵ (fat fullShare P′.mir l₁₀ 0 u)) (ap only (LL.tells P.the-type P′.the-laws r _ is)) refl $
           drop ! $ split ! $ move ! (1 ∷ []) $ split ! $ move ! (1 ∷ []) $ split ! $
           -- [ν; true; κ₁; κ₀; the last marks; question; m; kept; row; _7; …]: the lifetime is ended, and the marks come back
@@ -382,31 +382,31 @@ module _ {M : Type 1} (𝓤 : URA M) (H : Heap 𝓤) (A : Atoms 𝓤) (W : Given
           (take-back u64 κ₂ (ν ∷ []) q₂ γk bk ok 𝓤 H A W (named 2) (named 2) ns δ (fs .1 .1 .1 .1 .0) (subst (Room u64) (sym ek) room-k) len) $ await ! tt $ split ! $
           rewrite ! 0 (λ (n : ℕ). ‵ (Ok (fs .1 .1 .1 .1 .0) n)) (sym len) refl $ move ! (2 ∷ []) $ drop ! $ move ! (6 ∷ 0 ∷ 1 ∷ 5 ∷ 3 ∷ 4 ∷ 2 ∷ []) $
           -- the one that waits is stored
-          assigns ! (bin ! (local ! 8 refl) (lit ! tt) (record { fits = kt })) (here !) (store ! 12 refl (tt, record { fits = kt })) $
-          assigns ! (bin ! (part ! refl (look-in ! 26 (sub ! 0 refl (whole !)))) (local ! 12 refl) tt) (here !) (init ! 17 refl (tt, tt)) $
+          assigns ! (bin ! (local ! 8 refl) (lit ! tt) (record { fits = kt })) (slot !) (store ! 12 refl (tt, record { fits = kt })) $
+          assigns ! (bin ! (part ! refl (look-in ! 26 (sub ! 0 refl (whole !)))) (local ! 12 refl) tt) (slot !) (init ! 17 refl (tt, tt)) $
           rewrite ! 17 (λ (n : ℕ). ‵ (fat fullShare tyPtr l₁₇ 0 (vptr b n))) (sym (place-is 6 o k)) refl $
           point-out ! zs k blank b o kin (λ _.
           assigns ! (of-opd ! (part ! refl (look-in ! 12 (sub ! 0 refl (whole !))))) (from ! (hop ! (look ! 19 refl) (stop !)))
           (store-raw ! 0 refl (point-fits 𝓤 H A W (r .waits) (fields r w is .0))) $
           point-put ! zs k (r .waits) b o kin (fields r w is .0) $
           -- the sibling is stored
-          assigns ! (bin ! (local ! 7 refl) (lit ! tt) (record { fits = dt })) (here !) (store ! 12 refl (tt, record { fits = dt })) $
-          assigns ! (bin ! (part ! refl (look-in ! 26 (sub ! 0 refl (whole !)))) (local ! 12 refl) tt) (here !) (init ! 18 refl (tt, tt)) $
+          assigns ! (bin ! (local ! 7 refl) (lit ! tt) (record { fits = dt })) (slot !) (store ! 12 refl (tt, record { fits = dt })) $
+          assigns ! (bin ! (part ! refl (look-in ! 26 (sub ! 0 refl (whole !)))) (local ! 12 refl) tt) (slot !) (init ! 18 refl (tt, tt)) $
           rewrite ! 18 (λ (n : ℕ). ‵ (fat fullShare tyPtr l₁₈ 0 (vptr b n))) (sym (place-is 6 o depth)) refl $
           point-out ! (set zs k (r .waits)) depth blank b o (there (r .waits) deep long) (λ _.
           assigns ! (of-opd ! (part ! refl (look-in ! 12 (sub ! 1 refl (whole !))))) (from ! (hop ! (look ! 20 refl) (stop !)))
           (store-raw ! 0 refl (point-fits 𝓤 H A W (r .beside) (fields r w is .1 .0))) $
           point-put ! (set zs k (r .waits)) depth (r .beside) b o (there (r .waits) deep long) (fields r w is .1 .0) $
           -- the child is stored
-          assigns ! (bin ! (local ! 7 refl) (lit ! tt) (record { fits = uf })) (here !) (store ! 12 refl (tt, record { fits = uf })) $
-          assigns ! (bin ! (local ! 12 refl) (lit ! tt) (record { fits = ut })) (here !) (init ! 19 refl (tt, record { fits = ut })) $
-          assigns ! (bin ! (part ! refl (look-in ! 26 (sub ! 0 refl (whole !)))) (local ! 19 refl) tt) (here !) (init ! 20 refl (tt, tt)) $
+          assigns ! (bin ! (local ! 7 refl) (lit ! tt) (record { fits = uf })) (slot !) (store ! 12 refl (tt, record { fits = uf })) $
+          assigns ! (bin ! (local ! 12 refl) (lit ! tt) (record { fits = ut })) (slot !) (init ! 19 refl (tt, record { fits = ut })) $
+          assigns ! (bin ! (part ! refl (look-in ! 26 (sub ! 0 refl (whole !)))) (local ! 19 refl) tt) (slot !) (init ! 20 refl (tt, tt)) $
           rewrite ! 20 (λ (n : ℕ). ‵ (fat fullShare tyPtr l₂₀ 0 (vptr b n))) (sym (place-is 6 o (depth + 1))) refl $
           point-out ! (set (set zs k (r .waits)) depth (r .beside)) (depth + 1) blank b o (above (r .waits) (r .beside) deep long) (λ _.
           assigns ! (of-opd ! (part ! refl (look-in ! 12 (sub ! 2 refl (whole !))))) (from ! (hop ! (look ! 22 refl) (stop !)))
           (store-raw ! 0 refl (point-fits 𝓤 H A W (r .below) (fields r w is .1 .1 .0))) $
           point-put ! (set (set zs k (r .waits)) depth (r .beside)) (depth + 1) (r .below) b o (above (r .waits) (r .beside) deep long) (fields r w is .1 .1 .0) $
-          assigns-last ! (of-opd ! (part ! refl (look-in ! 10 (sub ! 3 refl (whole !))))) (here !) (store ! 7 refl (tt, record { fits = fields r w is .1 .1 .1 })) $
+          assigns-last ! (of-opd ! (part ! refl (look-in ! 10 (sub ! 3 refl (whole !))))) (slot !) (store ! 7 refl (tt, record { fits = fields r w is .1 .1 .1 })) $
           forget ! 8 refl $ forget ! 9 refl $ forget ! 10 refl $ forget ! 11 refl $ forget ! 12 refl $ forget ! 13 refl $ forget ! 14 refl $
           forget ! 15 refl $ forget ! 16 refl $ forget ! 17 refl $ forget ! 18 refl $ forget ! 19 refl $ forget ! 20 refl $
           by ! (go (fs .1 .1 .1 .1 .0) r len e)))))))))))))
@@ -422,10 +422,10 @@ module _ {M : Type 1} (𝓤 : URA M) (H : Heap 𝓤) (A : Atoms 𝓤) (W : Given
       unfolding afterTurn
       stops none found =
           qed W (At ns zs depth) ∵ exec ! C Λ En round (anyQ (afterTurn 𝓤 H X Left)) $
-          assigns ! (bin ! (lit ! tt) (local ! 7 refl) tt) (here !) (init ! 11 refl (tt, tt)) $
+          assigns ! (bin ! (lit ! tt) (local ! 7 refl) tt) (slot !) (init ! 11 refl (tt, tt)) $
           rewrite ! 11 (λ (t : Bool). ‵ (fat fullShare tyBool l₁₁ 0 (vbool t))) (le-ltb 0 depth none) refl $
           leaves-loop ! (local ! 11 refl) $ exec ! C Λ En rest (atRet En Post) $
-          assigns ! (of-opd ! (unit-lit !)) (here !) (init ! 27 refl (tt, tt)) $
+          assigns ! (of-opd ! (unit-lit !)) (slot !) (init ! 27 refl (tt, tt)) $
           move ! (0 ∷ 28 ∷ 29 ∷ 30 ∷ []) $ closes-slice ! tt R ys zs el b o $
           -- [obs; the borrow; κ₃; marks; κ₂; m; κ₀; question; κ₁; _7 to _20; _1 to _6; _0; and that each local dies]
           returns ! (look ! 29 refl) $ forget ! 9 refl $ forget ! 13 refl $ forget ! 23 refl $ forget ! 24 refl $
@@ -487,7 +487,7 @@ module _ {M : Type 1} (𝓤 : URA M) (H : Heap 𝓤) (A : Atoms 𝓤) (W : Given
 
     bodies : Seq (Go {0}) W Fresh (runs C Λ En (code.function .body) (atRet En Post))
     bodies =
-        assigns ! (of-opd ! (lit ! tt)) (here !) (init ! 26 refl (tt, record { fits = lit< tt })) $
+        assigns ! (of-opd ! (lit ! tt)) (slot !) (init ! 26 refl (tt, record { fits = lit< tt })) $
         move ! (42 ∷ 43 ∷ 44 ∷ []) $ opens-slice ! tt R ys b o $
         by ! (via 𝓤 (⋆ 𝓤 H A (At ms ys 1)) arranged loops)
 

@@ -18,29 +18,21 @@ use prog.Memory.{Memory}
 use prog.Routine.{Routine}
 use prog.Wp.{Heap, Calls, Loops, WpFn, Tables}
 use ghost.Atoms.{Atoms, sem}
-use contract.Lifetimes.{Lfts}
 use contract.Monad.{Fun, fact}
 use contract.Running.{givenOf, tables, tablesOf}
-use types.Kit.{Given, ‵, raw, _⊛_, given, ⋆, some, later, _$_, _∵_, !, qed, by, move, drop, use1, use2, use3, split, join, learn, pick, fsplit, fjoin, suffices, frame, await, rewrite, done}
+use types.Kit.{Given, Item, ‵, raw, _⊛_, ⋆, _$_, _∵_, !, qed, by, move, drop, use1, use2, use3, split, join, fsplit, fjoin, suffices, frame, rewrite, done}
 use types.Part.{whole, sub, look-in}
-use types.Run.{look, init, forget, stop, fld, from, load, of-opd, and-then, no-more, assigns, land, returns, enter, alloc1, alloc0, params1, pass1, pass0, free1, free0}
+use types.Run.{look, init, of-opd, no-more, assigns, land, returns, enter, alloc1, alloc0, params1, pass1, pass0}
 use sound.WpLaws.{FmC, fmOf, WpFn-mono}
-use denote.RattleType.{RattleType, owns}
+use denote.RattleType.{owns}
 use denote.Laws.{Is, shows}
-use denote.Plain.{uint-makes}
-use denote.Builtin.{usize}
 use denote.Ref.{RefT, NamedLft, now}
-use denote.Signature.{namedLft}
-use denote.Slice.{sliceVal}
-use denote.Steps.{only, owned, peeks, heard, nothing}
+use denote.Steps.{only, peeks, nothing}
 use denote.Enum.Laws as EL
-use denote.Struct.Declared.{Declared}
 use denote.Struct.Laws as LL
-use denote.Struct.Rest.{all-own, ownAt, rest, own-open, own-out}
-use denote.Struct.Values.{Values}
 use denote.Triple.Statement.{Contract, Triple}
 use denote.Triple.Call.{calls-at}
-use denote.Triple.Entry.{Vals, onEntry}
+use denote.Triple.Entry.{onEntry}
 use denote.Triple.Spec.{Meets, tripleOf}
 use denote.Triple.Table.{entered, cited}
 use denote.Triple.Walked.{says, Stays, stay-none, walkOf, goes-none, Walks, ends-at, walked, walk-meets}
@@ -50,6 +42,8 @@ use Rattle.commands.specs.Reader.{Next, cellIn, pickPlace, past}
 use Rattle.commands.specs.Commands.{Command, commandBy, commandIn}
 use Rattle.commands.specs.declared.reader.Reader.{Reader}
 use Rattle.commands.specs.Laws.{first-cell}
+use Rattle.commands.proofs.Walking.{slot, local, part, pass, frees-all, answered}
+use Rattle.commands.proofs.Readers.{B, D, L, slice-of, Parts, reader-twice, reader-apart}
 use Rattle.commands.proofs.reader.Reader as T
 use Rattle.commands.proofs.reader.Reader.Laws as T′
 use Rattle.commands.proofs.reader.Next as N
@@ -76,7 +70,8 @@ use Rattle.commands.proofs.reader.next_command.Code as code
 -- ---- the fact: the next cell and the cells behind it say what the cells from the place on say
 
 module _ (cells : List ℕ) (at : ℕ) where
-  by-test : (b : Bool) → ltb at (length cells) ≡ b → commandBy (cellIn (drop-cells at cells)) (drop-cells (pickPlace b (at + 1) at) cells) ≡ commandIn (drop-cells at cells)
+  by-test : (b : Bool) → ltb at (length cells) ≡ b
+      → commandBy (cellIn (drop-cells at cells)) (drop-cells (pickPlace b (at + 1) at) cells) ≡ commandIn (drop-cells at cells)
   by-test true e =
       let h = ltb-true at (length cells) e in
       ap (λ (l : List ℕ). commandBy (cellIn l) (drop-cells (at + 1) cells)) (drop-cons cells at 0 h) ∙ sym (first-cell cells at h)
@@ -88,8 +83,8 @@ module _ (cells : List ℕ) (at : ℕ) where
   in-two = by-test (ltb at (length cells)) refl
 
 -- what the three callees say
-said-so : (d m : Reader) (r : Next) (t : Command) → r ≡ cellIn (drop-cells (d .at) (now (d .cells))) → (m .cells ≡ d .cells) × (m .at ≡ past (now (d .cells)) (d .at)) → t ≡ commandBy r (drop-cells (m .at) (now (m .cells)))
-    → t ≡ commandIn (drop-cells (d .at) (now (d .cells)))
+said-so : (d m : Reader) (r : Next) (t : Command) → r ≡ cellIn (drop-cells (d .at) (now (d .cells))) → (m .cells ≡ d .cells) × (m .at ≡ past (now (d .cells)) (d .at))
+    → t ≡ commandBy r (drop-cells (m .at) (now (m .cells))) → t ≡ commandIn (drop-cells (d .at) (now (d .cells)))
 said-so d m r t cell-is moved-is is =
     is ∙ ap (λ (n : Next). commandBy n (drop-cells (m .at) (now (m .cells)))) cell-is
     ∙ ap (λ (x : RefT (List ℕ)). commandBy (cellIn (drop-cells (d .at) (now (d .cells)))) (drop-cells (m .at) (now x))) (moved-is .0)
@@ -97,10 +92,6 @@ said-so d m r t cell-is moved-is is =
     ∙ in-two (now (d .cells)) (d .at)
 
 -- ---- the walk
-
--- a reader's type, over the lifetimes of the signature
-abbrev B : Lfts 1 → RattleType
-B κs = T.the-row (namedLft 1 0 tt κs)
 
 abbrev stayed : Stays (here.ended .signature .params) (here.ended .kept)
 stayed = (stay-none B ended-yes, tt)
@@ -127,87 +118,102 @@ module _ {M : Type 1} (𝓤 : URA M) (H : Heap 𝓤) (A : Atoms 𝓤) (W : Given
   abbrev α : NamedLft
   α = record { mir = erased; lft = κ }
 
+  abbrev Whole : Contract 𝓤
+  Whole = walkOf 𝓤 H A here.ended stayed (here.clauses 𝓤 H A mem run)
+
+  abbrev given-to : Whole .Ghost
+  given-to = (((κ, tt), (q, tt), tt, (d, tt), (mach ∷ [], tt)), tt)
+
   abbrev Post : Val → SProp 𝓤
-  Post = walkOf 𝓤 H A here.ended stayed (here.clauses 𝓤 H A mem run) .post (((κ, tt), (q, tt), tt, (d, tt), (mach ∷ [], tt)), tt)
+  Post = Whole .post given-to
+
+  abbrev Entry : SProp 𝓤
+  Entry = onEntry 𝓤 H A here.signature (κ, tt) (q, tt) (d, tt) (mach ∷ [], tt)
+
+  abbrev tokens : Item 𝓤
+  tokens = ‵ (flft κ q) ⊛ ‵ ftrue
 
   abbrev Own : Fml
   Own = B (κ, tt) .own d (mach ∷ [])
 
-  abbrev D : Declared
-  D = T.the-type (namedLft 1 0 tt (κ, tt))
-
-  abbrev L : LL.Laws D
-  L = T′.the-laws (namedLft 1 0 tt (κ, tt))
-
-  twice : ent 𝓤 (sem 𝓤 H A Own) (sep 𝓤 (sem 𝓤 H A Own) (sem 𝓤 H A Own))
-  twice = LL.copy D (T′.the-copy (namedLft 1 0 tt (κ, tt))) 𝓤 H A W .twice d (mach ∷ [])
-
   -- asking for the next cell
-  abbrev to-cell : NextCell 𝓤 H A mem run .Ghost
+  abbrev Cell : Contract 𝓤
+  Cell = NextCell 𝓤 H A mem run
+
+  abbrev to-cell : Cell .Ghost
   to-cell = (((κ, tt), (q, tt), tt, (d, tt), (mach ∷ [], tt)), tt)
 
-  asks-cell : ent 𝓤 (⋆ 𝓤 H A (‵ Own ∷ (‵ (flft κ q) ⊛ ‵ ftrue) ∷ [])) (NextCell 𝓤 H A mem run .pre to-cell)
-  asks-cell = qed W (‵ Own ∷ (‵ (flft κ q) ⊛ ‵ ftrue) ∷ []) ∵ nothing ! $ move ! (1 ∷ 0 ∷ []) $ fjoin ! $ move ! (1 ∷ 0 ∷ []) $ join ! $ frame ! $ done !
+  asks-cell : ent 𝓤 (⋆ 𝓤 H A (‵ Own ∷ tokens ∷ [])) (Cell .pre to-cell)
+  asks-cell = qed W (‵ Own ∷ tokens ∷ []) ∵ nothing ! $ move ! (1 ∷ 0 ∷ []) $ fjoin ! $ move ! (1 ∷ 0 ∷ []) $ join ! $ frame ! $ done !
 
-  goes-cell : ent 𝓤 (onEntry 𝓤 H A here.signature (κ, tt) (q, tt) (d, tt) (mach ∷ [], tt)) (sep 𝓤 (NextCell 𝓤 H A mem run .pre to-cell) (sem 𝓤 H A Own))
+  goes-cell : ent 𝓤 Entry (sep 𝓤 (Cell .pre to-cell) (sem 𝓤 H A Own))
   goes-cell =
-      qed W ((‵ (flft κ q) ⊛ ‵ ftrue) ∷ ‵ (owns (B (κ, tt) ∷ []) (d, tt) (mach ∷ [], tt)) ∷ []) ∵
-      move ! (1 ∷ []) $ fsplit ! $ move ! (1 ∷ []) $ drop ! $ use1 W (‵ Own ⊛ ‵ Own) twice $ split ! $
-      move ! (0 ∷ 2 ∷ []) $ use2 W (raw (NextCell 𝓤 H A mem run .pre to-cell)) asks-cell $ frame ! $ done !
+      qed W (tokens ∷ ‵ (owns (B (κ, tt) ∷ []) (d, tt) (mach ∷ [], tt)) ∷ []) ∵
+      move ! (1 ∷ []) $ fsplit ! $ move ! (1 ∷ []) $ drop ! $ use1 W (‵ Own ⊛ ‵ Own) (reader-twice 𝓤 H A W κ d mach) $ split ! $
+      move ! (0 ∷ 2 ∷ []) $ use2 W (raw (Cell .pre to-cell)) asks-cell $ frame ! $ done !
 
-  cell-said : (r : Next) → ent 𝓤 (ensured 𝓤 H A cell.ended (cell.clauses 𝓤 H A mem run) (κ, tt) (d, tt) tt r) (fact 𝓤 (r ≡ cellIn (drop-cells (d .at) (now (d .cells)))))
-  cell-said r = exE 𝓤 _ (λ ws. snd∗ 𝓤 (sem 𝓤 H A (lasts cell.ended (κ, tt) (d, tt) ws)) (fact 𝓤 (r ≡ cellIn (drop-cells (d .at) (now (d .cells))))))
+  abbrev Is-cell : Next → Type 0
+  Is-cell r = r ≡ cellIn (drop-cells (d .at) (now (d .cells)))
+
+  abbrev Cell-said : Next → SProp 𝓤
+  Cell-said r = ensured 𝓤 H A cell.ended (cell.clauses 𝓤 H A mem run) (κ, tt) (d, tt) tt r
+
+  cell-said : (r : Next) → ent 𝓤 (Cell-said r) (fact 𝓤 (Is-cell r))
+  cell-said r = exE 𝓤 _ (λ ws. snd∗ 𝓤 (sem 𝓤 H A (lasts cell.ended (κ, tt) (d, tt) ws)) (fact 𝓤 (Is-cell r)))
 
   -- moving on
-  abbrev to-moved : MovedOn 𝓤 H A mem run .Ghost
+  abbrev Move : Contract 𝓤
+  Move = MovedOn 𝓤 H A mem run
+
+  abbrev to-moved : Move .Ghost
   to-moved = (((κ, tt), (q, tt), tt, (d, tt), (mach ∷ [], tt)), tt)
 
-  asks-moved : ent 𝓤 (⋆ 𝓤 H A (‵ Own ∷ (‵ (flft κ q) ⊛ ‵ ftrue) ∷ [])) (MovedOn 𝓤 H A mem run .pre to-moved)
-  asks-moved = qed W (‵ Own ∷ (‵ (flft κ q) ⊛ ‵ ftrue) ∷ []) ∵ nothing ! $ move ! (1 ∷ 0 ∷ []) $ fjoin ! $ move ! (1 ∷ 0 ∷ []) $ join ! $ frame ! $ done !
+  asks-moved : ent 𝓤 (⋆ 𝓤 H A (‵ Own ∷ tokens ∷ [])) (Move .pre to-moved)
+  asks-moved = qed W (‵ Own ∷ tokens ∷ []) ∵ nothing ! $ move ! (1 ∷ 0 ∷ []) $ fjoin ! $ move ! (1 ∷ 0 ∷ []) $ join ! $ frame ! $ done !
 
-  goes-moved : ent 𝓤 (⋆ 𝓤 H A (‵ Own ∷ (‵ (flft κ q) ⊛ ‵ ftrue) ∷ [])) (sep 𝓤 (MovedOn 𝓤 H A mem run .pre to-moved) (sem 𝓤 H A Own))
+  goes-moved : ent 𝓤 (⋆ 𝓤 H A (‵ Own ∷ tokens ∷ [])) (sep 𝓤 (Move .pre to-moved) (sem 𝓤 H A Own))
   goes-moved =
-      qed W (‵ Own ∷ (‵ (flft κ q) ⊛ ‵ ftrue) ∷ []) ∵ use1 W (‵ Own ⊛ ‵ Own) twice $ split ! $
-      move ! (0 ∷ 2 ∷ []) $ use2 W (raw (MovedOn 𝓤 H A mem run .pre to-moved)) asks-moved $ frame ! $ done !
+      qed W (‵ Own ∷ tokens ∷ []) ∵ use1 W (‵ Own ⊛ ‵ Own) (reader-twice 𝓤 H A W κ d mach) $ split ! $
+      move ! (0 ∷ 2 ∷ []) $ use2 W (raw (Move .pre to-moved)) asks-moved $ frame ! $ done !
 
   abbrev Moves : Reader → Type 0
   Moves m = (m .cells ≡ d .cells) × (m .at ≡ past (now (d .cells)) (d .at))
 
-  moved-said : (m : Reader) → ent 𝓤 (ensured 𝓤 H A moved.ended (moved.clauses 𝓤 H A mem run) (κ, tt) (d, tt) tt m) (fact 𝓤 (Moves m))
+  abbrev Move-said : Reader → SProp 𝓤
+  Move-said m = ensured 𝓤 H A moved.ended (moved.clauses 𝓤 H A mem run) (κ, tt) (d, tt) tt m
+
+  moved-said : (m : Reader) → ent 𝓤 (Move-said m) (fact 𝓤 (Moves m))
   moved-said m = exE 𝓤 _ (λ ws. snd∗ 𝓤 (sem 𝓤 H A (lasts moved.ended (κ, tt) (d, tt) ws)) (fact 𝓤 (Moves m)))
 
   -- the rest, on the cell, the slice and the number
+  abbrev Rest : Contract 𝓤
+  Rest = Core 𝓤 H A mem run
+
   module _ (r : Next) (u : Val) (m : Reader) (w : Val) where
-    abbrev v : Val
-    v = sliceVal (m .cells .ptr) (length (m .cells .now))
+    abbrev to-core : Rest .Ghost
+    to-core = (((κ, tt), (q, tt), tt, (r, (m .cells, (m .at, tt))), (u ∷ [], (slice-of m ∷ [], (vint w64 (m .at) ∷ [], tt)))), tt)
 
-    abbrev fields : Values (D .parts)
-    fields = (m .cells, (m .at, tt))
+    abbrev Had : List (Item 𝓤)
+    Had = ‵ (N.the-row .own r (u ∷ [])) ∷ ‵ (B (κ, tt) .own m (w ∷ [])) ∷ tokens ∷ []
 
-    abbrev passed : Vals core.signature (κ, tt)
-    passed = (u ∷ [], (v ∷ [], (vint w64 (m .at) ∷ [], tt)))
-
-    abbrev to-core : Core 𝓤 H A mem run .Ghost
-    to-core = (((κ, tt), (q, tt), tt, (r, (m .cells, (m .at, tt))), passed), tt)
-
-    goes-core : m .at < 2 ^ 64 → ent 𝓤 (⋆ 𝓤 H A (‵ (N.the-row .own r (u ∷ [])) ∷ ‵ (B (κ, tt) .own m (w ∷ [])) ∷ (‵ (flft κ q) ⊛ ‵ ftrue) ∷ [])) (Core 𝓤 H A mem run .pre to-core)
+    goes-core : m .at < 2 ^ 64 → ent 𝓤 (⋆ 𝓤 H A Had) (Rest .pre to-core)
     goes-core low =
-        qed W (‵ (N.the-row .own r (u ∷ [])) ∷ ‵ (B (κ, tt) .own m (w ∷ [])) ∷ (‵ (flft κ q) ⊛ ‵ ftrue) ∷ []) ∵
-        move ! (1 ∷ []) $ use1 W (given (w ∷ [] ≡ T′.lowered m ∷ []) (‵ (all-own (D .parts) L fields))) (own-open 𝓤 H A W D L fields w) $ learn ! (λ _. use1 W (‵ (ownAt (D .parts) L 0 (m .cells)) ⊛ ‵ (rest (D .parts) L 0 fields)) (own-out 𝓤 H A W (D .parts) L 0 fields) $ split ! $
-        -- the slice's; the number's; the cell's; the lifetime's
-        move ! (1 ∷ []) $ drop ! $ nothing ! $ owned ! usize (Is usize) (uint-makes 𝓤 H A W w64) (m .at) _ (refl, low) $ fjoin ! $ move ! (1 ∷ 0 ∷ []) $ fjoin ! $ move ! (1 ∷ 0 ∷ []) $ fjoin ! $
-        move ! (1 ∷ 0 ∷ []) $ join ! $ frame ! $ done !)
+        qed W Had ∵ move ! (1 ∷ []) $ use1 W (‵ (Parts κ m)) (reader-apart 𝓤 H A W κ m w low) $
+        move ! (1 ∷ 0 ∷ []) $ fjoin ! $ move ! (1 ∷ 0 ∷ []) $ join ! $ frame ! $ done !
 
     abbrev Says : Command → Type 0
     Says t = t ≡ commandBy r (drop-cells (m .at) (now (m .cells)))
 
-    core-said : (t : Command) → ent 𝓤 (ensured 𝓤 H A core.ended (core.clauses 𝓤 H A mem run) (κ, tt) (r, (m .cells, (m .at, tt))) tt t) (fact 𝓤 (Says t))
+    abbrev Core-said : Command → SProp 𝓤
+    Core-said t = ensured 𝓤 H A core.ended (core.clauses 𝓤 H A mem run) (κ, tt) (r, (m .cells, (m .at, tt))) tt t
+
+    core-said : (t : Command) → ent 𝓤 (Core-said t) (fact 𝓤 (Says t))
     core-said t = exE 𝓤 _ (λ ws. snd∗ 𝓤 (sem 𝓤 H A (lasts core.ended (κ, tt) (r, (m .cells, (m .at, tt))) ws)) (fact 𝓤 (Says t)))
 
-  exits : (t : Command) (u : Val) → t ≡ found → ent 𝓤 (⋆ 𝓤 H A (‵ (S.the-row .own t (u ∷ [])) ∷ (‵ (flft κ q) ⊛ ‵ ftrue) ∷ ‵ Own ∷ [])) (Post u)
+  exits : (t : Command) (u : Val) → t ≡ found → ent 𝓤 (⋆ 𝓤 H A (‵ (S.the-row .own t (u ∷ [])) ∷ tokens ∷ ‵ Own ∷ [])) (Post u)
   exits t u e =
-      qed W (‵ (S.the-row .own t (u ∷ [])) ∷ (‵ (flft κ q) ⊛ ‵ ftrue) ∷ ‵ Own ∷ []) ∵
-      suffices ! _ (ends-at 𝓤 H A here.ended stayed (here.clauses 𝓤 H A mem run) W (((κ, tt), (q, tt), tt, (d, tt), (mach ∷ [], tt)), tt) u t (tt, tt) (tt, tt)) $ says ! e $
+      qed W (‵ (S.the-row .own t (u ∷ [])) ∷ tokens ∷ ‵ Own ∷ []) ∵
+      suffices ! _ (ends-at 𝓤 H A here.ended stayed (here.clauses 𝓤 H A mem run) W given-to u t (tt, tt) (tt, tt)) $ says ! e $
       move ! (1 ∷ []) $ frame ! $ nothing ! $ move ! (2 ∷ 0 ∷ []) $ fjoin ! $ frame ! $ done !
 
   -- what a local that holds a reader has to be
@@ -215,59 +221,60 @@ module _ {M : Type 1} (𝓤 : URA M) (H : Heap 𝓤) (A : Atoms 𝓤) (W : Given
   held m w is = LL.lawful (T.the-type α) (T′.the-laws α) 𝓤 H A W .typed m (w ∷ []) is .0
 
   spelt-out : (m : Reader) (w : Val) → Is (B (κ, tt)) m (w ∷ []) → w ∷ [] ≡ T′.lowered m ∷ []
-  spelt-out m w is = LL.tells D L m (w ∷ []) is
+  spelt-out m w is = LL.tells (D (κ, tt)) (L (κ, tt)) m (w ∷ []) is
 
   held-so : (m : Reader) (w : Val) → Is (B (κ, tt)) m (w ∷ []) → Holds (hasTy (T′.mir erased) (T′.lowered m)) × WT (T′.lowered m)
   held-so m w is = held m (T′.lowered m) (subst (Is (B (κ, tt)) m) (spelt-out m w is) is)
 
-  module _ (C : Calls 𝓤 H) (Λ : Loops 𝓤 H) (fm : FmC 𝓤 H (W .laws) C) (known-cell : Triple 𝓤 (C #cell) (NextCell 𝓤 H A mem run)) (known-moved : Triple 𝓤 (C #moved) (MovedOn 𝓤 H A mem run)) (known-core : Triple 𝓤 (C #core) (Core 𝓤 H A mem run)) where
-    walk : Is (B (κ, tt)) d (mach ∷ []) → ent 𝓤 (onEntry 𝓤 H A here.signature (κ, tt) (q, tt) (d, tt) (mach ∷ [], tt)) (WpFn 𝓤 H C Λ code.function (mach ∷ []) Post)
+  module _ (C : Calls 𝓤 H) (Λ : Loops 𝓤 H) (fm : FmC 𝓤 H (W .laws) C) (known-cell : Triple 𝓤 (C #cell) Cell)
+      (known-moved : Triple 𝓤 (C #moved) Move) (known-core : Triple 𝓤 (C #core) Rest) where
+    walk : Is (B (κ, tt)) d (mach ∷ []) → ent 𝓤 Entry (WpFn 𝓤 H C Λ code.function (mach ∷ []) Post)
     walk is₀ =
-        qed W (raw (onEntry 𝓤 H A here.signature (κ, tt) (q, tt) (d, tt) (mach ∷ [], tt)) ∷ []) ∵ enter ! C Λ code.function (mach ∷ []) _ $
+        qed W (raw Entry ∷ []) ∵ enter ! C Λ code.function (mach ∷ []) _ $
         alloc1 ! (λ l₀. alloc1 ! (λ l₁. alloc1 ! (λ l₂. alloc1 ! (λ l₃. alloc1 ! (λ l₄. alloc1 ! (λ l₅. alloc1 ! (λ l₆. alloc1 ! (λ l₇. alloc0 ! $ params1 ! $
-        pass1 ! (init ! 12 refl (LL.lawful D L 𝓤 H A W .typed d _ is₀ .0)) $ pass0 ! $
+        pass1 ! (init ! 12 refl (LL.lawful (D (κ, tt)) (L (κ, tt)) 𝓤 H A W .typed d _ is₀ .0)) $ pass0 ! $
         -- the next cell
-        assigns ! (of-opd ! (load ! (from ! (stop !)) (look ! 12 refl))) (from ! (stop !)) (init ! 6 refl (held d mach is₀)) $
-        move ! (16 ∷ []) $ use1 W (raw (NextCell 𝓤 H A mem run .pre to-cell) ⊛ ‵ Own) goes-cell $ split ! $
-        calls-at ! fm (NextCell 𝓤 H A mem run) known-cell to-cell (and-then ! (load ! (from ! (stop !)) (look ! 8 refl)) (no-more !)) (λ u.
-        use1 W (later (some (λ (r : Next). ((‵ (flft κ q) ⊛ ‵ ftrue) ⊛ ‵ (N.the-row .own r (u ∷ []))) ⊛ raw (ensured 𝓤 H A cell.ended (cell.clauses 𝓤 H A mem run) (κ, tt) (d, tt) tt r)))) (id⊢ 𝓤 _) $ await ! tt $ pick ! (λ r.
-        split ! $ move ! (1 ∷ []) $ use1 W (raw (fact 𝓤 (r ≡ cellIn (drop-cells (d .at) (now (d .cells)))))) (cell-said r) $ heard ! (r ≡ cellIn (drop-cells (d .at) (now (d .cells)))) (λ cell-is. split ! $ move ! (1 ∷ []) $
+        assigns ! (of-opd ! (local ! 12 refl)) (slot !) (init ! 6 refl (held d mach is₀)) $
+        move ! (16 ∷ []) $ use1 W (raw (Cell .pre to-cell) ⊛ ‵ Own) goes-cell $ split ! $
+        calls-at ! fm Cell known-cell to-cell (pass ! 8 refl (no-more !)) (λ u.
+        answered ! tt u N.the-row tokens Is-cell Cell-said (id⊢ 𝓤 _) cell-said (λ r cell-is.
         peeks ! N.the-row (Is N.the-row) (shows 𝓤 H A N.the-row) r (u ∷ []) (λ is.
-        land ! (from ! (stop !)) (init ! 13 refl (EL.lawful N.the-type N′.the-laws 𝓤 H A W tt .typed r _ is .0)) $
+        land ! (slot !) (init ! 13 refl (EL.lawful N.the-type N′.the-laws 𝓤 H A W tt .typed r _ is .0)) $
         -- the cell's; the lifetime's; the reader's; then the locals from the last to the result's. The reader is moved on
-        assigns ! (of-opd ! (load ! (from ! (stop !)) (look ! 15 refl))) (from ! (stop !)) (init ! 7 refl (held d mach is₀)) $
-        move ! (2 ∷ 1 ∷ []) $ use2 W (raw (MovedOn 𝓤 H A mem run .pre to-moved) ⊛ ‵ Own) goes-moved $ split ! $
-        calls-at ! fm (MovedOn 𝓤 H A mem run) known-moved to-moved (and-then ! (load ! (from ! (stop !)) (look ! 7 refl)) (no-more !)) (λ w.
-        use1 W (later (some (λ (m : Reader). ((‵ (flft κ q) ⊛ ‵ ftrue) ⊛ ‵ (B (κ, tt) .own m (w ∷ []))) ⊛ raw (ensured 𝓤 H A moved.ended (moved.clauses 𝓤 H A mem run) (κ, tt) (d, tt) tt m)))) (id⊢ 𝓤 _) $ await ! tt $ pick ! (λ m.
-        split ! $ move ! (1 ∷ []) $ use1 W (raw (fact 𝓤 (Moves m))) (moved-said m) $ heard ! (Moves m) (λ moved-is. split ! $ move ! (1 ∷ []) $
+        assigns ! (of-opd ! (local ! 15 refl)) (slot !) (init ! 7 refl (held d mach is₀)) $
+        move ! (2 ∷ 1 ∷ []) $ use2 W (raw (Move .pre to-moved) ⊛ ‵ Own) goes-moved $ split ! $
+        calls-at ! fm Move known-moved to-moved (pass ! 7 refl (no-more !)) (λ w.
+        answered ! tt w (B (κ, tt)) tokens Moves Move-said (id⊢ 𝓤 _) moved-said (λ m moved-is.
         peeks ! (B (κ, tt)) (Is (B (κ, tt))) (shows 𝓤 H A (B (κ, tt))) m (w ∷ []) (λ is₁.
-        land ! (from ! (stop !)) (init ! 12 refl (held m w is₁)) $ rewrite ! 12 (λ (x : Val). ‵ (fat fullShare (T′.mir erased) l₃ 0 x)) (ap only (spelt-out m w is₁)) refl $
+        land ! (slot !) (init ! 12 refl (held m w is₁)) $
+        rewrite ! 12 (λ (x : Val). ‵ (fat fullShare (T′.mir erased) l₃ 0 x)) (ap only (spelt-out m w is₁)) refl $
         -- the moved reader's; the lifetime's; the reader's; the cell's; then the locals. The moved reader is taken apart
-        assigns ! (of-opd ! (load ! (from ! (fld ! refl (stop !))) (look-in ! 12 (sub ! 0 refl (whole !))))) (from ! (stop !)) (init ! 6 refl (tt, held-so m w is₁ .1 .0)) $
-        assigns ! (of-opd ! (load ! (from ! (fld ! refl (stop !))) (look-in ! 12 (sub ! 1 refl (whole !))))) (from ! (stop !)) (init ! 4 refl (tt, held-so m w is₁ .1 .1 .0)) $
-        move ! (3 ∷ 0 ∷ 1 ∷ []) $ use3 W (raw (Core 𝓤 H A mem run .pre (to-core r u m w))) (goes-core r u m w (held-so m w is₁ .1 .1 .0 .fits)) $
-        calls-at ! fm (Core 𝓤 H A mem run) known-core (to-core r u m w) (and-then ! (load ! (from ! (stop !)) (look ! 12 refl)) (and-then ! (load ! (from ! (stop !)) (look ! 4 refl)) (and-then ! (load ! (from ! (stop !)) (look ! 2 refl)) (no-more !)))) (λ x.
-        use1 W (later (some (λ (t : Command). ((‵ (flft κ q) ⊛ ‵ ftrue) ⊛ ‵ (S.the-row .own t (x ∷ []))) ⊛ raw (ensured 𝓤 H A core.ended (core.clauses 𝓤 H A mem run) (κ, tt) (r, (m .cells, (m .at, tt))) tt t)))) (id⊢ 𝓤 _) $ await ! tt $ pick ! (λ t.
-        split ! $ move ! (1 ∷ []) $ use1 W (raw (fact 𝓤 (Says r u m w t))) (core-said r u m w t) $ heard ! (Says r u m w t) (λ e. split ! $ move ! (1 ∷ []) $
+        assigns ! (of-opd ! (part ! refl (look-in ! 12 (sub ! 0 refl (whole !))))) (slot !) (init ! 6 refl (tt, held-so m w is₁ .1 .0)) $
+        assigns ! (of-opd ! (part ! refl (look-in ! 12 (sub ! 1 refl (whole !))))) (slot !) (init ! 4 refl (tt, held-so m w is₁ .1 .1 .0)) $
+        move ! (3 ∷ 0 ∷ 1 ∷ []) $ use3 W (raw (Rest .pre (to-core r u m w))) (goes-core r u m w (held-so m w is₁ .1 .1 .0 .fits)) $
+        calls-at ! fm Rest known-core (to-core r u m w) (pass ! 12 refl (pass ! 4 refl (pass ! 2 refl (no-more !)))) (λ x.
+        answered ! tt x S.the-row tokens (Says r u m w) (Core-said r u m w) (id⊢ 𝓤 _) (core-said r u m w) (λ t e.
         -- the result; the lifetime's; the reader's; then the locals
         peeks ! S.the-row (Is S.the-row) (shows 𝓤 H A S.the-row) t (x ∷ []) (λ is₂.
-        land ! (from ! (stop !)) (init ! 17 refl (LL.lawful S.the-type S′.the-laws 𝓤 H A W .typed t _ is₂ .0)) $
-        returns ! (look ! 17 refl) $ forget ! 3 refl $ forget ! 5 refl $ forget ! 7 refl $ forget ! 9 refl $ forget ! 11 refl $ forget ! 13 refl $ forget ! 15 refl $ forget ! 17 refl $
-        move ! (17 ∷ 18 ∷ []) $ free1 ! $ move ! (15 ∷ 16 ∷ []) $ free1 ! $ move ! (13 ∷ 14 ∷ []) $ free1 ! $ move ! (11 ∷ 12 ∷ []) $ free1 ! $ move ! (9 ∷ 10 ∷ []) $ free1 ! $ move ! (7 ∷ 8 ∷ []) $ free1 ! $ move ! (5 ∷ 6 ∷ []) $ free1 ! $
-        move ! (3 ∷ 4 ∷ []) $ free1 ! $ free0 ! $ by ! (exits t x (said-so d m r t cell-is moved-is e))))))))))))))))))))))
+        land ! (slot !) (init ! 17 refl (LL.lawful S.the-type S′.the-laws 𝓤 H A W .typed t _ is₂ .0)) $
+        returns ! (look ! 17 refl) $ move ! (17 ∷ 18 ∷ 15 ∷ 16 ∷ 13 ∷ 14 ∷ 11 ∷ 12 ∷ 9 ∷ 10 ∷ 7 ∷ 8 ∷ 5 ∷ 6 ∷ 3 ∷ 4 ∷ []) $
+        frees-all ! (_ ∷ _ ∷ _ ∷ _ ∷ _ ∷ _ ∷ _ ∷ _ ∷ []) refl $ by ! (exits t x (said-so d m r t cell-is moved-is e)))))))))))))))))))
 
-module _ {M : Type 1} (𝓤 : URA M) (H : Heap 𝓤) (A : Atoms 𝓤) (W : Given 𝓤 H A) (mem : Memory → SProp 𝓤) (run : Routine → Fun 𝓤) where
-  walks : (C : Calls 𝓤 H) (Λ : Loops 𝓤 H) → FmC 𝓤 H (W .laws) C → Triple 𝓤 (C #cell) (NextCell 𝓤 H A mem run) → Triple 𝓤 (C #moved) (MovedOn 𝓤 H A mem run) → Triple 𝓤 (C #core) (Core 𝓤 H A mem run)
-      → Walks 𝓤 H A here.ended stayed (WpFn 𝓤 H C Λ code.function) (here.clauses 𝓤 H A mem run)
-  walks C Λ fm known-cell known-moved known-core =
-      walked 𝓤 H A here.ended stayed (here.clauses 𝓤 H A mem run) (WpFn 𝓤 H C Λ code.function) (λ κs. (LL.vals (T.the-type (namedLft 1 0 tt κs)) (T′.the-laws (namedLft 1 0 tt κs)), tt)) (λ κs. (LL.tells (T.the-type (namedLft 1 0 tt κs)) (T′.the-laws (namedLft 1 0 tt κs)), tt))
-      (λ κs qs bounds a g are. via 𝓤 _ (fst∗ 𝓤 _ (emp 𝓤)) (walk 𝓤 H A W mem run (κs .0) (qs .0) (a .0) C Λ fm known-cell known-moved known-core (are .0)))
+module _ {M : Type 1} (𝓤 : URA M) (H : Heap 𝓤) (A : Atoms 𝓤) (W : Given 𝓤 H A) (mem : Memory → SProp 𝓤) (run : Routine → Fun 𝓤)
+    (𝓣 : Tables 𝓤 H) (known-cell : Triple 𝓤 (𝓣 .C #cell) (NextCell 𝓤 H A mem run)) (known-moved : Triple 𝓤 (𝓣 .C #moved) (MovedOn 𝓤 H A mem run))
+    (known-core : Triple 𝓤 (𝓣 .C #core) (Core 𝓤 H A mem run)) where
+  abbrev Runs : List Val → (Val → SProp 𝓤) → SProp 𝓤
+  Runs = WpFn 𝓤 H (𝓣 .C) (𝓣 .Λ) code.function
 
-  meets : (𝓣 : Tables 𝓤 H) → Triple 𝓤 (𝓣 .C #cell) (NextCell 𝓤 H A mem run) → Triple 𝓤 (𝓣 .C #moved) (MovedOn 𝓤 H A mem run) → Triple 𝓤 (𝓣 .C #core) (Core 𝓤 H A mem run)
-      → Meets 𝓤 H A here.signature (WpFn 𝓤 H (𝓣 .C) (𝓣 .Λ) code.function) (here.spec 𝓤 H A mem run)
-  meets 𝓣 known-cell known-moved known-core =
-      walk-meets 𝓤 H A here.ended stayed W (goes-none 𝓤 H A W 1 B ended-yes (λ κs x f. refl), tt) (here.clauses 𝓤 H A mem run) (WpFn 𝓤 H (𝓣 .C) (𝓣 .Λ) code.function) (WpFn-mono 𝓤 H (W .laws) 𝓣 code.function)
-      (walks (𝓣 .C) (𝓣 .Λ) (fmOf 𝓤 H (W .laws) 𝓣) known-cell known-moved known-core)
+  walks : Walks 𝓤 H A here.ended stayed Runs (here.clauses 𝓤 H A mem run)
+  walks = walked 𝓤 H A here.ended stayed (here.clauses 𝓤 H A mem run) Runs (λ κs. (LL.vals (D κs) (L κs), tt)) (λ κs. (LL.tells (D κs) (L κs), tt))
+      (λ κs qs bounds a g are. via 𝓤 _ (fst∗ 𝓤 _ (emp 𝓤)) (walk 𝓤 H A W mem run (κs .0) (qs .0) (a .0)
+      (𝓣 .C) (𝓣 .Λ) (fmOf 𝓤 H (W .laws) 𝓣) known-cell known-moved known-core (are .0)))
+
+  meets : Meets 𝓤 H A here.signature Runs (here.spec 𝓤 H A mem run)
+  meets =
+      walk-meets 𝓤 H A here.ended stayed W (goes-none 𝓤 H A W 1 B ended-yes (λ κs x f. refl), tt) (here.clauses 𝓤 H A mem run)
+      Runs (WpFn-mono 𝓤 H (W .laws) 𝓣 code.function) walks
 
 pub next-command-spec : {M : Type 1} → stated.statement M
 unfolding code.routine tablesOf

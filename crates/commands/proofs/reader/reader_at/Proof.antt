@@ -15,9 +15,9 @@ use prog.Wp.{Heap, Calls, Loops, WpFn, Tables}
 use ghost.Atoms.{Atoms}
 use contract.Monad.{Fun}
 use contract.Running.{givenOf, tables, tablesOf}
-use types.Kit.{Given, ‵, raw, _⊛_, _$_, _∵_, !, qed, by, move, use1, split, fsplit, fjoin, suffices, frame}
+use types.Kit.{Given, Item, ‵, raw, _⊛_, _$_, _∵_, !, qed, by, move, use1, split, fsplit, fjoin, suffices, frame}
 use types.Part.{agg}
-use types.Run.{look, init, forget, stop, from, load, and-then, no-more, assigns, returns, enter, alloc1, alloc0, params1, pass1, pass0, free1, free0}
+use types.Run.{look, init, no-more, assigns, returns, enter, alloc1, alloc0, params1, pass1, pass0}
 use sound.WpLaws.{WpFn-mono}
 use denote.RattleType.{owns}
 use denote.Laws.{Is}
@@ -28,12 +28,14 @@ use denote.Signature.{plain, namedLft}
 use denote.Slice.{sliceVal, ShrSlice, slice-vals, shr-slice-tells, shr-slice-lawful, shr-slice-copy}
 use denote.Steps.{nothing, owned}
 use denote.Struct.Rest.{own-shut}
+use denote.Triple.Statement.{Contract}
 use denote.Triple.Entry.{onEntry, Vals}
 use denote.Triple.Spec.{Meets, tripleOf}
 use denote.Triple.Table.{entered}
 use denote.Triple.Walked.{says, Stays, stay-none, stay-none-slice, walkOf, goes-none, goes-none-slice, Walks, ends-at, walked, walk-meets}
 use denote.Exit.{yes as ended-yes}
 use Rattle.commands.specs.declared.reader.Reader.{Reader}
+use Rattle.commands.proofs.Walking.{slot, pass, frees-all}
 use Rattle.commands.proofs.reader.Reader as T
 use Rattle.commands.proofs.reader.Reader.Laws as T′
 use Rattle.commands.proofs.reader.reader_at.Key.{name as #here}
@@ -44,7 +46,8 @@ use Rattle.commands.proofs.reader.reader_at.Code as code
 abbrev stayed : Stays (here.ended .signature .params) (here.ended .kept)
 stayed = (stay-none-slice (0 ∷ []) tt (plain (λ _. u16)) ended-yes, (stay-none (λ _. usize) ended-yes, tt))
 
-module _ {M : Type 1} (𝓤 : URA M) (H : Heap 𝓤) (A : Atoms 𝓤) (W : Given 𝓤 H A) (mem : Memory → SProp 𝓤) (run : Routine → Fun 𝓤) (κ : Lft) (q : Share) (s : RefT (List ℕ)) (n : ℕ) (low : n < 2 ^ 64) where
+module _ {M : Type 1} (𝓤 : URA M) (H : Heap 𝓤) (A : Atoms 𝓤) (W : Given 𝓤 H A) (mem : Memory → SProp 𝓤) (run : Routine → Fun 𝓤)
+    (κ : Lft) (q : Share) (s : RefT (List ℕ)) (n : ℕ) (low : n < 2 ^ 64) where
   abbrev α : NamedLft
   α = namedLft 1 0 tt (κ, tt)
 
@@ -57,40 +60,63 @@ module _ {M : Type 1} (𝓤 : URA M) (H : Heap 𝓤) (A : Atoms 𝓤) (W : Given
   abbrev at : Vals here.signature (κ, tt)
   at = (v ∷ [], (vint w64 n ∷ [], tt))
 
+  abbrev Whole : Contract 𝓤
+  Whole = walkOf 𝓤 H A here.ended stayed (here.clauses 𝓤 H A mem run)
+
+  abbrev given-to : Whole .Ghost
+  given-to = (((κ, tt), (q, tt), tt, (s, (n, tt)), at), tt)
+
   abbrev Post : Val → SProp 𝓤
-  Post = walkOf 𝓤 H A here.ended stayed (here.clauses 𝓤 H A mem run) .post (((κ, tt), (q, tt), tt, (s, (n, tt)), at), tt)
+  Post = Whole .post given-to
+
+  abbrev Entry : SProp 𝓤
+  Entry = onEntry 𝓤 H A here.signature (κ, tt) (q, tt) (s, (n, tt)) at
+
+  abbrev tokens : Item 𝓤
+  tokens = ‵ (flft κ q) ⊛ ‵ ftrue
+
+  -- what the two parameters own, and the slice alone
+  abbrev Both : Fml
+  Both = owns (ShrSlice (named 0) κ u16 ∷ usize ∷ []) (s, (n, tt)) at
 
   abbrev Own : Fml
   Own = ShrSlice (named 0) κ u16 .own s (v ∷ [])
 
-  exits : ent 𝓤 (onEntry 𝓤 H A here.signature (κ, tt) (q, tt) (s, (n, tt)) at) (Post (T′.lowered made))
+  exits : ent 𝓤 Entry (Post (T′.lowered made))
   exits =
-      qed W ((‵ (flft κ q) ⊛ ‵ ftrue) ∷ ‵ (owns (ShrSlice (named 0) κ u16 ∷ usize ∷ []) (s, (n, tt)) at) ∷ []) ∵
-      suffices ! _ (ends-at 𝓤 H A here.ended stayed (here.clauses 𝓤 H A mem run) W (((κ, tt), (q, tt), tt, (s, (n, tt)), at), tt) (T′.lowered made) made (tt, (tt, tt)) (tt, (tt, tt))) $ says ! (refl, refl) $
+      qed W (tokens ∷ ‵ Both ∷ []) ∵
+      suffices ! _ (ends-at 𝓤 H A here.ended stayed (here.clauses 𝓤 H A mem run) W given-to (T′.lowered made) made (tt, (tt, tt)) (tt, (tt, tt))) $ says ! (refl, refl) $
       frame ! $ fsplit ! $ use1 W (‵ Own ⊛ ‵ Own) (shr-slice-copy 𝓤 H A W (named 0) κ u16 .twice s (v ∷ [])) $ split ! $ move ! (0 ∷ 2 ∷ []) $ fjoin ! $ frame ! $
       -- what is left is the slice's; with the number's facts it is what the reader owns
-      nothing ! $ owned ! usize (Is usize) (uint-makes 𝓤 H A W w64) n _ (refl, low) $ fjoin ! $ move ! (1 ∷ 0 ∷ []) $ fjoin ! $ by ! (own-shut 𝓤 H A W (T.the-type α) (T′.the-laws α) (s, (n, tt)))
+      nothing ! $ owned ! usize (Is usize) (uint-makes 𝓤 H A W w64) n _ (refl, low) $ fjoin ! $ move ! (1 ∷ 0 ∷ []) $ fjoin ! $
+      by ! (own-shut 𝓤 H A W (T.the-type α) (T′.the-laws α) (s, (n, tt)))
 
   module _ (C : Calls 𝓤 H) (Λ : Loops 𝓤 H) where
-    walk : Is (ShrSlice (named 0) κ u16) s (v ∷ []) → ent 𝓤 (onEntry 𝓤 H A here.signature (κ, tt) (q, tt) (s, (n, tt)) at) (WpFn 𝓤 H C Λ code.function (v ∷ vint w64 n ∷ []) Post)
+    walk : Is (ShrSlice (named 0) κ u16) s (v ∷ []) → ent 𝓤 Entry (WpFn 𝓤 H C Λ code.function (v ∷ vint w64 n ∷ []) Post)
     walk p =
-        qed W (raw (onEntry 𝓤 H A here.signature (κ, tt) (q, tt) (s, (n, tt)) at) ∷ []) ∵ enter ! C Λ code.function (v ∷ vint w64 n ∷ []) _ $
+        qed W (raw Entry ∷ []) ∵ enter ! C Λ code.function (v ∷ vint w64 n ∷ []) _ $
         alloc1 ! (λ l₀. alloc1 ! (λ l₁. alloc1 ! (λ l₂. alloc0 ! $ params1 ! $
         pass1 ! (init ! 2 refl (shr-slice-lawful 𝓤 H A W (named 0) κ u16 .typed s (v ∷ []) p .0)) $ pass1 ! (init ! 0 refl (tt, record { fits = low })) $ pass0 ! $
-        assigns ! (agg ! (and-then ! (load ! (from ! (stop !)) (look ! 2 refl)) (and-then ! (load ! (from ! (stop !)) (look ! 0 refl)) (no-more !)))) (from ! (stop !))
+        assigns ! (agg ! (pass ! 2 refl (pass ! 0 refl (no-more !)))) (slot !)
         (init ! 4 refl (tt, (shr-slice-lawful 𝓤 H A W (named 0) κ u16 .typed s (v ∷ []) p .0 .1, (record { fits = low }, tt)))) $
-        returns ! (look ! 4 refl) $ forget ! 0 refl $ forget ! 2 refl $ forget ! 4 refl $ move ! (4 ∷ 5 ∷ []) $ free1 ! $ move ! (2 ∷ 3 ∷ []) $ free1 ! $ free1 ! $ free0 ! $ by ! exits)))
+        returns ! (look ! 4 refl) $ move ! (4 ∷ 5 ∷ 2 ∷ 3 ∷ []) $ frees-all ! (_ ∷ _ ∷ _ ∷ []) refl $ by ! exits)))
 
-module _ {M : Type 1} (𝓤 : URA M) (H : Heap 𝓤) (A : Atoms 𝓤) (W : Given 𝓤 H A) (mem : Memory → SProp 𝓤) (run : Routine → Fun 𝓤) where
-  walks : (C : Calls 𝓤 H) (Λ : Loops 𝓤 H) → Walks 𝓤 H A here.ended stayed (WpFn 𝓤 H C Λ code.function) (here.clauses 𝓤 H A mem run)
-  walks C Λ =
-      walked 𝓤 H A here.ended stayed (here.clauses 𝓤 H A mem run) (WpFn 𝓤 H C Λ code.function) (λ κs. (slice-vals, (uint-vals w64, tt))) (λ κs. (shr-slice-tells (named 0) (κs .0) u16, (uint-tells w64, tt)))
-      (λ κs qs bounds a g are. via 𝓤 _ (fst∗ 𝓤 _ (emp 𝓤)) (walk 𝓤 H A W mem run (κs .0) (qs .0) (a .0) (a .1 .0) (are .1 .0 .1) C Λ (are .0)))
+module _ {M : Type 1} (𝓤 : URA M) (H : Heap 𝓤) (A : Atoms 𝓤) (W : Given 𝓤 H A) (mem : Memory → SProp 𝓤) (run : Routine → Fun 𝓤) (𝓣 : Tables 𝓤 H) where
+  abbrev Runs : List Val → (Val → SProp 𝓤) → SProp 𝓤
+  Runs = WpFn 𝓤 H (𝓣 .C) (𝓣 .Λ) code.function
 
-  meets : (𝓣 : Tables 𝓤 H) → Meets 𝓤 H A here.signature (WpFn 𝓤 H (𝓣 .C) (𝓣 .Λ) code.function) (here.spec 𝓤 H A mem run)
-  meets 𝓣 =
-      walk-meets 𝓤 H A here.ended stayed W (goes-none-slice 𝓤 H A W 1 (0 ∷ []) tt (plain (λ _. u16)) ended-yes, (goes-none 𝓤 H A W 1 (λ _. usize) ended-yes (λ κs x f. refl), tt))
-      (here.clauses 𝓤 H A mem run) (WpFn 𝓤 H (𝓣 .C) (𝓣 .Λ) code.function) (WpFn-mono 𝓤 H (W .laws) 𝓣 code.function) (walks (𝓣 .C) (𝓣 .Λ))
+  walks : Walks 𝓤 H A here.ended stayed Runs (here.clauses 𝓤 H A mem run)
+  walks = walked 𝓤 H A here.ended stayed (here.clauses 𝓤 H A mem run) Runs
+      (λ κs. (slice-vals, (uint-vals w64, tt))) (λ κs. (shr-slice-tells (named 0) (κs .0) u16, (uint-tells w64, tt)))
+      (λ κs qs bounds a g are. via 𝓤 _ (fst∗ 𝓤 _ (emp 𝓤)) (walk 𝓤 H A W mem run (κs .0) (qs .0) (a .0) (a .1 .0) (are .1 .0 .1)
+      (𝓣 .C) (𝓣 .Λ) (are .0)))
+
+  meets : Meets 𝓤 H A here.signature Runs (here.spec 𝓤 H A mem run)
+  meets =
+      walk-meets 𝓤 H A here.ended stayed W (
+        goes-none-slice 𝓤 H A W 1 (0 ∷ []) tt (plain (λ _. u16)) ended-yes,
+        (goes-none 𝓤 H A W 1 (λ _. usize) ended-yes (λ κs x f. refl), tt),
+      ) (here.clauses 𝓤 H A mem run) Runs (WpFn-mono 𝓤 H (W .laws) 𝓣 code.function) walks
 
 pub reader-at-spec : {M : Type 1} → stated.statement M
 unfolding code.routine tablesOf
