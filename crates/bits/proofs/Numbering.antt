@@ -13,7 +13,7 @@ use lib.ListN.{length, getD, set, length-set}
 use lib.Seq.{getD-set-same, getD-set-other}
 use Rattle.bits.specs.Packed.{parts, bits, First}
 use Rattle.bits.specs.Laws.{length-parts, length-bits, get-bit, at-word}
-use Rattle.bits.specs.Numbers.{counts, has, Member, NumberSet, Emptied, Puts, NextNumber, restOf, Spotted, none-above}
+use Rattle.bits.specs.Numbers.{counts, has, Member, NumberSet, Emptied, PutsNumber, NextNumber, restOf, NextAndRest, none-above}
 use Rattle.bits.proofs.Searching.{none-left, left-low, one-left, shift-twice, zero-bit}
 
 apart : (b : Bool) → b ≡ true → b ≡ false → ⊥
@@ -58,7 +58,7 @@ module _ (ws ws′ : List ℕ) (n : ℕ) (l : n < 4096) (s : NumberSet ws) (same
 
   -- from what became of its own bit, of its word's bit in the head, of the other bits of its word, and of all other words
   puts : getD (bits ws′) n 0 ≡ 1 → counts ws′ (n / 64) ≡ true → ((k : ℕ) → k / 64 ≡ n / 64 → ¬ (k ≡ n) → eqb (getD (bits ws′) k 0) 1 ≡ has ws k)
-      → ((k : ℕ) → k < 4160 → ¬ (k / 64 ≡ n / 64) → ¬ (k ≡ 4096 + n / 64) → getD (bits ws′) k 0 ≡ getD (bits ws) k 0) → Puts ws ws′ n
+      → ((k : ℕ) → k < 4160 → ¬ (k / 64 ≡ n / 64) → ¬ (k ≡ 4096 + n / 64) → getD (bits ws′) k 0 ≡ getD (bits ws) k 0) → PutsNumber ws ws′ n
   puts own head word else = record { is-set = record { size = long; some = λ q h c. some q h c (ℕ-discrete q (n / 64)) }; here = here; other = λ k d. other k d (decLt k 4096) }
     where
       here : has ws′ n ≡ true
@@ -82,7 +82,7 @@ module _ (ws ws′ : List ℕ) (n : ℕ) (l : n < 4096) (s : NumberSet ws) (same
           (x .0, x .1, away (x .0) (omega (arith, x .1)) (λ e. d (sym (x .1) ∙ e)) ∙ x .2)
 
   -- its word counts
-  pub put-more : counts ws (n / 64) ≡ true → bits ws′ ≡ set (bits ws) n 1 → Puts ws ws′ n
+  pub put-more : counts ws (n / 64) ≡ true → bits ws′ ≡ set (bits ws) n 1 → PutsNumber ws ws′ n
   put-more c e = puts (marked-here ws ws′ n inside e) (ap (λ (x : ℕ). eqb x 1) (marked-other ws ws′ n inside e (4096 + n / 64) (omega arith)) ∙ c)
       (λ k f d. ap (λ (x : ℕ). eqb x 1) (marked-other ws ws′ n inside e k d) ∙ sym (ap (λ (b : Bool). b && eqb (getD (bits ws) k 0) 1) (ap (counts ws) f ∙ c)))
       (λ k h d f. marked-other ws ws′ n inside e k (λ z. d (ap (λ (x : ℕ). x / 64) z)))
@@ -91,7 +91,7 @@ module _ (ws ws′ : List ℕ) (n : ℕ) (l : n < 4096) (s : NumberSet ws) (same
       inside = omega (arith, length-bits ws, s .size)
 
   -- it does not: the word is cleared, and marked in the head
-  pub put-first : counts ws (n / 64) ≡ false → (vs : List ℕ) → bits vs ≡ set (bits (set ws (n / 64) 0)) (4096 + n / 64) 1 → bits ws′ ≡ set (bits vs) n 1 → length vs ≡ 65 → Puts ws ws′ n
+  pub put-first : counts ws (n / 64) ≡ false → (vs : List ℕ) → bits vs ≡ set (bits (set ws (n / 64) 0)) (4096 + n / 64) 1 → bits ws′ ≡ set (bits vs) n 1 → length vs ≡ 65 → PutsNumber ws ws′ n
   put-first c vs f e lv = puts (marked-here vs ws′ n inside e) (ap (λ (x : ℕ). eqb x 1) (marked-other vs ws′ n inside e (4096 + n / 64) (omega arith) ∙ marked-here (set ws (n / 64) 0) vs (4096 + n / 64) head-in f))
       (λ k g d. ap (λ (x : ℕ). eqb x 1) (back k (omega arith) d ∙ cleared ws (n / 64) word-in k g) ∙ sym (ap (λ (b : Bool). b && eqb (getD (bits ws) k 0) 1) (ap (counts ws) g ∙ c)))
       (λ k h d g. back k g (λ z. d (ap (λ (x : ℕ). x / 64) z)) ∙ uncleared ws (n / 64) word-in k d)
@@ -201,7 +201,7 @@ module _ (ws : List ℕ) (s : NumberSet ws) (n rest : ℕ) (h : n < 4096) (m : M
   word-done z k a b =
       of-word ws (n / 64) (n % 64 + 1) (omega arith) (omega arith) on 64 (none-left (getD ws (n / 64) 0) (n % 64 + 1) (omega arith) (sym behind ∙ z)) .before k (omega arith) b
 
-  pub word-goes : (at r : ℕ) → (rest * 2 ^ 1) % 2 ^ 64 ≡ 0 → Spotted ws (n / 64 * 64 + 64) at r → Spotted ws (n + 1) at r
+  pub word-goes : (at r : ℕ) → (rest * 2 ^ 1) % 2 ^ 64 ≡ 0 → NextAndRest ws (n / 64 * 64 + 64) at r → NextAndRest ws (n + 1) at r
   word-goes at r z f = record {
     first = record {
       after = let q = f .first .after in omega arith;
@@ -233,7 +233,7 @@ module _ (ws : List ℕ) (s : NumberSet ws) (n rest : ℕ) (h : n < 4096) (m : M
     pub in-it : n % 64 + 1 + leadingZeros 64 ((rest * 2 ^ 1) % 2 ^ 64) < 64
     in-it = subst (λ (x : ℕ). n % 64 + 1 + leadingZeros 64 x < 64) (sym behind) (left-low (getD ws (n / 64) 0) (n % 64 + 1) inner more)
 
-    pub word-more : (z : ℕ) → z ≡ leadingZeros 64 ((rest * 2 ^ 1) % 2 ^ 64) → Spotted ws (n + 1) (n + 1 + z) (((rest * 2 ^ 1) % 2 ^ 64 * 2 ^ z) % 2 ^ 64)
+    pub word-more : (z : ℕ) → z ≡ leadingZeros 64 ((rest * 2 ^ 1) % 2 ^ 64) → NextAndRest ws (n + 1) (n + 1 + z) (((rest * 2 ^ 1) % 2 ^ 64 * 2 ^ z) % 2 ^ 64)
     word-more z ez = record {
       first = subst (λ (x : ℕ). NextNumber ws (n + 1) 4096 x) there (in-this ws s (n + 1) (n / 64) r (let q = inner in omega arith) (let q = inner in omega arith) this low);
       left = λ b. ap (λ (x : ℕ). (x * 2 ^ z) % 2 ^ 64) behind ∙ shift-twice (getD ws (n / 64) 0) (n % 64 + 1) z ∙ ap₂ (λ (q t : ℕ). (getD ws q 0 * 2 ^ t) % 2 ^ 64) same-word same-bit;

@@ -31,7 +31,7 @@ pub record Emptied (ws : List ℕ) : Type 0 where
   pub none : (k : ℕ) → has ws k ≡ false
 
 -- n is put in, and all other numbers stay in or out
-pub record Puts (ws ws′ : List ℕ) (n : ℕ) : Type 0 where
+pub record PutsNumber (ws ws′ : List ℕ) (n : ℕ) : Type 0 where
   pub is-set : NumberSet ws′
   pub here : Member ws′ n
   pub other : (k : ℕ) → ¬ (k ≡ n) → has ws′ k ≡ has ws k
@@ -48,7 +48,7 @@ abbrev pub restOf : List ℕ → ℕ → ℕ
 restOf ws n = (getD ws (n / 64) 0 * 2 ^ (n % 64)) % 2 ^ 64
 
 -- the first number at or after `from`, or 4,096, and the rest of its word
-pub record Spotted (ws : List ℕ) (from at rest : ℕ) : Type 0 where
+pub record NextAndRest (ws : List ℕ) (from at rest : ℕ) : Type 0 where
   pub first : NextNumber ws from 4096 at
   pub left : at < 4096 → rest ≡ restOf ws at
 

@@ -7,7 +7,7 @@
 ghost use mathlib.Core.Path.{_≡_};
 ghost use Prim.Native.Nat.{_+_, _*_, _≤_, _<_};
 ghost use lib.ListN.{length};
-ghost use Rattle.bits.specs.Numbers.{NumberSet, Emptied, Puts, Member, NextNumber, restOf, Spotted};
+ghost use Rattle.bits.specs.Numbers.{NumberSet, Emptied, PutsNumber, Member, NextNumber, restOf, NextAndRest};
 
 // Takes all numbers out, whatever the words hold.
 pub fn empty(map: &mut [u64])
@@ -21,7 +21,7 @@ pub fn empty(map: &mut [u64])
 pub fn put(map: &mut [u64], n: usize)
     requires { ⌜ NumberSet (now map) ⌝ }
     requires { ⌜ n < 4096 ⌝ }
-    ensures { λ _. ⌜ Puts (now (map .entry)) (now (map .exit)) n ⌝ }
+    ensures { λ _. ⌜ PutsNumber (now (map .entry)) (now (map .exit)) n ⌝ }
 {
     if crate::is_marked(map, 4096 + n / 64) {
         crate::mark(map, n);
@@ -70,38 +70,38 @@ pub fn next(map: &[u64], from: usize) -> usize
 }
 
 // A number, and the rest of its word, shifted so that the number's bit comes first. Where there is no number, `at` is 4,096.
-pub struct Spot {
+pub struct NumberAndRest {
     pub at: usize,
     pub rest: u64,
 }
 
 // The first number at or after `from`.
-pub fn first(map: &[u64], from: usize) -> Spot
+pub fn first(map: &[u64], from: usize) -> NumberAndRest
     requires { ⌜ NumberSet (now map) ⌝ }
     requires { ⌜ from ≤ 4096 ⌝ }
-    ensures { λ r. ⌜ Spotted (now (map .entry)) from (r .at) (r .rest) ⌝ }
+    ensures { λ r. ⌜ NextAndRest (now (map .entry)) from (r .at) (r .rest) ⌝ }
 {
     let at = next(map, from);
     if 4096 <= at {
-        return Spot { at, rest: 0 };
+        return NumberAndRest { at, rest: 0 };
     }
     let rest = map[at / 64] << (at % 64);
-    Spot { at, rest }
+    NumberAndRest { at, rest }
 }
 
-// The next number behind a spot: as long as its word has one more, neither the head nor the word is looked at again.
-pub fn after(map: &[u64], at: usize, rest: u64) -> Spot
+// The next number behind one: as long as its word has one more, neither the head nor the word is looked at again.
+pub fn after(map: &[u64], at: usize, rest: u64) -> NumberAndRest
     requires { ⌜ NumberSet (now map) ⌝ }
     requires { ⌜ (at < 4096) × Member (now map) at ⌝ }
     requires { ⌜ rest ≡ restOf (now map) at ⌝ }
-    ensures { λ r. ⌜ Spotted (now (map .entry)) (at + 1) (r .at) (r .rest) ⌝ }
+    ensures { λ r. ⌜ NextAndRest (now (map .entry)) (at + 1) (r .at) (r .rest) ⌝ }
 {
     let left = rest << 1;
     if left == 0 {
         return first(map, at / 64 * 64 + 64);
     }
     let z = u64::leading_zeros(left) as usize;
-    Spot {
+    NumberAndRest {
         at: at + 1 + z,
         rest: left << z,
     }

@@ -17,8 +17,8 @@ use Rattle.tree.specs.Words.{cellOf, parentOf, firstOf, nextOf, word}
 use Rattle.tree.specs.Stops.{Standing, go-along}
 use Rattle.book.specs.Memory.{view, leaf, taken}
 use Rattle.book.specs.Holding.{hanging, taken-leaf}
-use Rattle.passing.specs.Walk.{wants, Hangs, Told, Bare, ended-right}
-use Rattle.passing.specs.State.{AtPlace, Found, Sizes, RuleAt, RuleDecided, AskedRule, RuleEntered, Ruled}
+use Rattle.passing.specs.Wanted.{wants, Hangs, Told, Bare, ended-right}
+use Rattle.passing.specs.State.{AtPlace, AllFound, Sizes, RuleAt, RuleDecided, AskedRule, RuleEntered, Ruled}
 use Rattle.book.specs.Looking.{nodes-low, rule-number}
 use Rattle.passing.proofs.Downing.{node-word, meets, no-dead-end, kept-counts, wanted-is}
 use Rattle.passing.proofs.Ruling.{rule-hangs, hangs-rule}
@@ -41,7 +41,7 @@ rules-start ws left way ks stack x p low depth top s a e = record {
 module _ (ws left₀ left way ks stack : List ℕ) (x p low depth top : ℕ) (i : Ruling ws left₀ left way ks stack x p low depth top) where
   -- ---- where all is found
 
-  module _ (f : Found ws) where
+  module _ (f : AllFound ws) where
     small : (n : ℕ) → Used (view ws .tree) n → n < lastLink
     small = nodes-low ws (i .sizes .words)
 
@@ -83,7 +83,7 @@ module _ (ws left₀ left way ks stack : List ℕ) (x p low depth top : ℕ) (i 
                   hangs = q .2 .rule (x - firstRule) d;
                 }
 
-  refusal : (left′ : List ℕ) → ¬ (Found ws) → Ruled ws left₀ left′ way ks stack depth top false
+  refusal : (left′ : List ℕ) → ¬ (AllFound ws) → Ruled ws left₀ left′ way ks stack depth top false
   refusal left′ n = record { over = λ q. absurd (true≢false q refl); fewer = λ q. absurd (true≢false q refl); no = λ q. n }
 
   pub no-rule : (left′ : List ℕ) (w : ℕ) (r : Bool) → RuleEntered ws left left′ x p low w r → r ≡ false → Ruled ws left₀ left′ way ks stack depth top false

@@ -14,7 +14,7 @@ use Rattle.term.specs.Counting.{true≢false}
 use Rattle.tree.specs.Tally.{marked}
 use Rattle.tree.specs.Tallies.{mark-here, mark-other}
 use Rattle.tree.specs.Words.{cellOf, parentOf, firstOf, nextOf, Node}
-use Rattle.passing.specs.State.{numbered, Come, Pushed, Asked, Entered, AskedRule, RuleEntered}
+use Rattle.passing.specs.State.{numbered, Come, Pushed, AskedNode, Entered, AskedRule, RuleEntered}
 
 module _ (left : List ℕ) (w n p low : ℕ) where
   stays : (parentOf w ≡ p → low ≤ cellOf w → ¬ (marked left n ≡ true)) → Come left left w n p low false
@@ -63,7 +63,7 @@ cell-numbered c known l k h = (sym (ap (λ (b : Bool). pick b c (c + known)) (le
 -- ---- a node of forms
 
 module _ (ws left : List ℕ) (x p low depth : ℕ) where
-  pub refuses : (left′ : List ℕ) (w : ℕ) (r : Bool) → r ≡ false → ¬ (Asked left x p low depth (getD ws (linksAt + x) 0)) → Entered ws left left′ x p low depth w r
+  pub refuses : (left′ : List ℕ) (w : ℕ) (r : Bool) → r ≡ false → ¬ (AskedNode left x p low depth (getD ws (linksAt + x) 0)) → Entered ws left left′ x p low depth w r
   refuses left′ w r f n = record {
     yes = λ q. absurd (true≢false q f);
     word = λ q. absurd (true≢false q f);
@@ -72,7 +72,7 @@ module _ (ws left : List ℕ) (x p low depth : ℕ) where
     no = λ q. n;
   }
 
-  pub not-come : (left′ : List ℕ) (w n : ℕ) (r : Bool) → n ≡ x - 1 → w ≡ getD ws (linksAt + x) 0 → Come left left′ w n p low r → r ≡ false → ¬ (Asked left x p low depth (getD ws (linksAt + x) 0))
+  pub not-come : (left′ : List ℕ) (w n : ℕ) (r : Bool) → n ≡ x - 1 → w ≡ getD ws (linksAt + x) 0 → Come left left′ w n p low r → r ≡ false → ¬ (AskedNode left x p low depth (getD ws (linksAt + x) 0))
   not-come left′ w n r en ew c f a = c .no f (ap parentOf ew ∙ a .under) (low-enough ew (a .above)) (ap (marked left) en ∙ a .was)
     where
       low-enough : {u v : ℕ} → u ≡ v → low ≤ cellOf v → low ≤ cellOf u

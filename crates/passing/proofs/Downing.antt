@@ -18,8 +18,8 @@ use Rattle.tree.specs.Words.{cellOf, parentOf, firstOf, nextOf, word, Node}
 use Rattle.tree.specs.Down.{fresh, known-valid}
 use Rattle.tree.specs.Stops.{Stop, stop, beside, along-up, along-few, Standing, go-down, go-last}
 use Rattle.book.specs.Memory.{View, view}
-use Rattle.passing.specs.Walk.{wants, Told, Bare, whole-row}
-use Rattle.passing.specs.State.{blanks, counts, numbered, wordOf, Kept, none, more, Stacked, Low, AtPlace, Found, Sizes, Asked, Entered, Pushed, Downed}
+use Rattle.passing.specs.Wanted.{wants, Told, Bare, whole-row}
+use Rattle.passing.specs.State.{blanks, counts, numbered, wordOf, Kept, none, more, Stacked, Low, AtPlace, AllFound, Sizes, AskedNode, Entered, Pushed, Downed}
 use Rattle.passing.specs.State as state
 use Rattle.book.specs.Looking.{nodes-low}
 
@@ -98,7 +98,7 @@ module _ (ws left way ks stack : List ℕ) (x p low depth top : ℕ) (s : Sizes 
   v = view ws
 
   -- where all is found, a node that the place leads to is left and fits, and it has the row that the walk has
-  module _ (f : Found ws) where
+  module _ (f : AllFound ws) where
     pub meets : (n : ℕ) → to (view ws .tree) (a .place) ≡ suc n → Fits (view ws .tree) (a .place) n × (marked left n ≡ true) × Told (view ws) n (view ws .tree .cell n ∷ a .row)
     meets n e =
         let q = fresh (view ws .tree) Bare (Told (view ws)) (marked left) (a .place) (map beside (a .stops)) (a .standing .walking) (f .tree) e in
@@ -112,10 +112,10 @@ module _ (ws left way ks stack : List ℕ) (x p low depth top : ℕ) (s : Sizes 
         a .stuck e (f .bare (a .place) (known-valid (view ws .tree) (marked left) (a .place) (a .standing .walking .known (a .place) (List·Memᴰ·head refl))) (a .leads ∙ e))
 
     -- a node of forms comes next where something is wanted
-    inner : ¬ (wants (a .row) ≡ 0) → Asked left x p low depth (getD ws (linksAt + x) 0)
+    inner : ¬ (wants (a .row) ≡ 0) → AskedNode left x p low depth (getD ws (linksAt + x) 0)
     inner h = go x refl
       where
-        go : (l : ℕ) → x ≡ l → Asked left x p low depth (getD ws (linksAt + x) 0)
+        go : (l : ℕ) → x ≡ l → AskedNode left x p low depth (getD ws (linksAt + x) 0)
         go zero e = absurd (no-dead-end e)
         go (suc n) e = by (decLt n nodesLimit)
           where
@@ -125,7 +125,7 @@ module _ (ws left way ks stack : List ℕ) (x p low depth top : ℕ) (s : Sizes 
             is : word (take treeWords ws) (suc n) ≡ getD ws (linksAt + x) 0
             is = node-word ws n (nodes-low ws (s .words) n (q .0 .used)) ∙ ap (λ (k : ℕ). getD ws (linksAt + k) 0) (sym e)
 
-            by : Dec (n < nodesLimit) → Asked left x p low depth (getD ws (linksAt + x) 0)
+            by : Dec (n < nodesLimit) → AskedNode left x p low depth (getD ws (linksAt + x) 0)
             by (yes l) = let i = q .2 .node l in record {
               some = omega arith;
               node = omega arith;
@@ -137,12 +137,12 @@ module _ (ws left way ks stack : List ℕ) (x p low depth top : ℕ) (s : Sizes 
             }
             by (no l) = absurd (h (whole-row (view ws) (n - nodesLimit) (a .row) (q .2 .rule (n - nodesLimit) (omega arith))))
 
-  pub refused : (left′ : List ℕ) (w : ℕ) (r : Bool) → Entered ws left left′ x p low depth w r → r ≡ false → ¬ (wants (a .row) ≡ 0) → ¬ (Found ws)
+  pub refused : (left′ : List ℕ) (w : ℕ) (r : Bool) → Entered ws left left′ x p low depth w r → r ≡ false → ¬ (wants (a .row) ≡ 0) → ¬ (AllFound ws)
   refused left′ w r e q h f = e .no q (inner f h)
 
   -- one node down
   module _ (left′ : List ℕ) (w : ℕ) (r : Bool) (e : Entered ws left left′ x p low depth w r) (t : r ≡ true) (h : ¬ (wants (a .row) ≡ 0)) where
-    asked : Asked left x p low depth w
+    asked : AskedNode left x p low depth w
     asked = e .yes t
 
     n : ℕ

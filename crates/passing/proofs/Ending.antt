@@ -19,8 +19,8 @@ use Rattle.tree.specs.Down.{Walking, ended, all-seen}
 use Rattle.tree.specs.Stops.{Stop, stop, Standing, set-off, go-end, go-back}
 use Rattle.book.specs.Memory.{view, Passing}
 use Rattle.passing.specs.Promises.{Checks}
-use Rattle.passing.specs.Walk.{Told, Bare, ended-right, right-ended}
-use Rattle.passing.specs.State.{Kept, none, more, Stacked, Low, AtPlace, Found, Sizes, Over, Popped, Clear}
+use Rattle.passing.specs.Wanted.{Told, Bare, ended-right, right-ended}
+use Rattle.passing.specs.State.{Kept, none, more, Stacked, Low, AtPlace, AllFound, Sizes, Over, Popped, Clear}
 use Rattle.book.specs.Looking.{inside, nodes-low}
 use Rattle.passing.proofs.Downing.{kept-back}
 
@@ -49,10 +49,10 @@ clear-no left long n h = n (same-bits left (replicate mapWords 0) (long ∙ sym 
 
 -- ---- the answer
 
-pub found-passes : (ws : List ℕ) → length ws ≡ bookWords → Found ws → Passing ws
+pub found-passes : (ws : List ℕ) → length ws ≡ bookWords → AllFound ws → Passing ws
 found-passes ws size f = record { size = size; right = ended-right (view ws) (nodes-low ws size) f }
 
-pub answers-no : (ws : List ℕ) → ¬ (Found ws) → Checks ws false
+pub answers-no : (ws : List ℕ) → ¬ (AllFound ws) → Checks ws false
 answers-no ws n = record { yes = λ q. absurd (true≢false q refl); no = λ q p. n (right-ended (view ws) (nodes-low ws (p .size)) (p .right)) }
 
 pub walked : (ws left : List ℕ) → length ws ≡ bookWords → Walking (view ws .tree) Bare (Told (view ws)) [] (marked left) → (r : Bool) → Decides (Clear left) r → Checks ws r
@@ -61,7 +61,7 @@ walked ws left size w r d = record {
   no = λ q p. let f = right-ended (view ws) (nodes-low ws size) (p .right) in d .no q (λ n. gone f n (marked left n) refl);
 }
   where
-    gone : Found ws → (n : ℕ) (b : Bool) → marked left n ≡ b → marked left n ≡ false
+    gone : AllFound ws → (n : ℕ) (b : Bool) → marked left n ≡ b → marked left n ≡ false
     gone f n true e = all-seen (view ws .tree) Bare (Told (view ws)) (marked left) w (f .tree) n (w .within n e)
     gone f n false e = e
 

@@ -12,7 +12,7 @@ use Rattle.bits.specs.Laws.{length-unpack}
 use Rattle.term.specs.Reading.{readTerm}
 use Rattle.term.specs.declared.reading.Reading.the-variants.{Whole}
 use Rattle.book.specs.Memory.{blankNumber}
-use Rattle.passing.specs.Walk.{wants}
+use Rattle.passing.specs.Wanted.{wants}
 use Rattle.passing.specs.General.{general, Opened, general-whole}
 use Rattle.passing.specs.State.{blanks, numbered, wordOf, Kept, none, more, Low, TermOf, Plain}
 use Rattle.passing.proofs.Downing.{blanks-low}

@@ -21,7 +21,7 @@ use Rattle.book.specs.Memory.{view, number, term, form, blankNumber}
 use Rattle.book.specs.Forms.{Side, symbol, variable, side}
 use Rattle.tree.specs.Words.{cellOf}
 use Rattle.passing.specs.Promises.{IsWhole}
-use Rattle.passing.specs.Walk.{Hangs}
+use Rattle.passing.specs.Wanted.{Hangs}
 use Rattle.passing.specs.State.{blanks, numbered, wordOf, Kept, none, more, Low, TermOf, TermDecided, RuleAt, RuleDecided}
 use Rattle.passing.proofs.Downing.{blanks-low}
 use Rattle.book.specs.Looking.{rule-number}

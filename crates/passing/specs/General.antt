@@ -12,7 +12,7 @@ use Rattle.term.specs.Reading.{variable, takes, goOn, readFrom, readTerm}
 use Rattle.term.specs.declared.reading.Taken.{Taken}
 use Rattle.term.specs.declared.reading.Taken.the-variants.{Wants}
 use Rattle.term.specs.declared.reading.Reading.the-variants.{Whole}
-use Rattle.passing.specs.Walk.{wants}
+use Rattle.passing.specs.Wanted.{wants}
 use Rattle.passing.specs.State.{blanks, numbered, Low}
 
 -- a row is read backwards, as the walk has it

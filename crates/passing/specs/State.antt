@@ -18,7 +18,7 @@ use Rattle.tree.specs.Down.{Ended}
 use Rattle.tree.specs.Stops.{Stop, stop, Standing}
 use Rattle.book.specs.Filling.{Zeros}
 use Rattle.book.specs.Memory.{view, number, blankNumber}
-use Rattle.passing.specs.Walk.{wants, Told, Bare}
+use Rattle.passing.specs.Wanted.{wants, Told, Bare}
 
 -- how many blanks a row has
 abbrev pub blanks : List ℕ → ℕ
@@ -69,8 +69,8 @@ pub record AtPlace (ws left way ks stack : List ℕ) (x p low depth top : ℕ) :
   pub kept : Kept way ks row
 
 -- All is found that the check asks for
-abbrev pub Found : List ℕ → Type 0
-Found ws = Ended (view ws .tree) Bare (Told (view ws))
+abbrev pub AllFound : List ℕ → Type 0
+AllFound ws = Ended (view ws .tree) Bare (Told (view ws))
 
 -- ---- what the functions promise
 
@@ -100,7 +100,7 @@ pub record Sizes (ws left way ks stack : List ℕ) : Type 0 where
   pub stops : length stack ≡ 33
 
 -- What is asked of a node of forms that the link x leads to, with the word w
-pub record Asked (left : List ℕ) (x p low depth w : ℕ) : Type 0 where
+pub record AskedNode (left : List ℕ) (x p low depth w : ℕ) : Type 0 where
   pub some : 0 < x
   pub node : x ≤ nodesLimit
   pub short : depth < 32
@@ -111,18 +111,18 @@ pub record Asked (left : List ℕ) (x p low depth w : ℕ) : Type 0 where
 
 -- It is asked, and then the node is left no more
 pub record Entered (ws left left′ : List ℕ) (x p low depth w : ℕ) (r : Bool) : Type 0 where
-  pub yes : r ≡ true → Asked left x p low depth w
+  pub yes : r ≡ true → AskedNode left x p low depth w
   pub word : r ≡ true → w ≡ getD ws (linksAt + x) 0
   pub gone : r ≡ true → marked left′ (x - 1) ≡ false
   pub others : r ≡ true → (y : ℕ) → ¬ (y ≡ x - 1) → marked left′ y ≡ marked left y
-  pub no : r ≡ false → ¬ (Asked left x p low depth (getD ws (linksAt + x) 0))
+  pub no : r ≡ false → ¬ (AskedNode left x p low depth (getD ws (linksAt + x) 0))
 
 -- Down to the end of a form
 pub record Downed (ws left left′ way ks stack : List ℕ) (x p low depth top : ℕ) (r : Bool) : Type 0 where
   pub at : r ≡ true → AtPlace ws left′ way ks stack x p low depth top
   pub whole : r ≡ true → getD ks depth 0 % 65536 ≡ 0
   pub fewer : r ≡ true → tally (marked left′) lastLink ≤ tally (marked left) lastLink
-  pub no : r ≡ false → ¬ (Found ws)
+  pub no : r ≡ false → ¬ (AllFound ws)
 
 -- The words of a record are those of a whole term of this length, and zeros, with the blanks of the way
 pub record TermOf (words way : List ℕ) (depth : ℕ) : Type 0 where
@@ -190,7 +190,7 @@ pub record Over (ws left way ks stack : List ℕ) (depth top : ℕ) : Type 0 whe
 pub record Ruled (ws left left′ way ks stack : List ℕ) (depth top : ℕ) (r : Bool) : Type 0 where
   pub over : r ≡ true → Over ws left′ way ks stack depth top
   pub fewer : r ≡ true → tally (marked left′) lastLink < tally (marked left) lastLink
-  pub no : r ≡ false → ¬ (Found ws)
+  pub no : r ≡ false → ¬ (AllFound ws)
 
 -- No node is left
 abbrev pub Clear : List ℕ → Type 0

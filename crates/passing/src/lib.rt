@@ -18,7 +18,7 @@ use book::Book;
 const MARK: u64 = Book::MARK as u64;
 
 // Where the walk is: before the link x, a child of p with a cell of `low` at the least. Or it has met something wrong.
-pub struct Point {
+pub struct Walker {
     pub x: usize,
     pub p: usize,
     pub low: u64,
@@ -108,10 +108,10 @@ fn wrong() -> Got
     }
 }
 
-fn lost() -> Point
+fn lost() -> Walker
     ensures { λ r. ⌜ r .right ≡ false ⌝ }
 {
-    Point {
+    Walker {
         x: 0,
         p: 0,
         low: 0,
@@ -128,8 +128,8 @@ pub fn down(
     way: &mut [u64],
     wants: &mut [u64],
     stack: &mut [u64],
-    at: Point,
-) -> Point
+    at: Walker,
+) -> Walker
     requires { ⌜ Sizes (now m) (now left) (now way) (now wants) (now stack) ⌝ }
     requires { ⌜ AtPlace (now m) (now left) (now way) (now wants) (now stack) (at .x) (at .p) (at .low) (at .depth) (at .top) ⌝ }
     ensures { λ r. ⌜ Downed (now (m .entry)) (now (left .entry)) (now (left .exit)) (now (way .exit)) (now (wants .exit)) (now (stack .exit)) (r .x) (r .p) (r .low) (r .depth) (r .top) (r .right) ⌝ }
@@ -159,7 +159,7 @@ pub fn down(
         x = tree::first_of(w) as usize;
         low = 0;
     }
-    Point {
+    Walker {
         x,
         p,
         low,
@@ -200,7 +200,7 @@ pub fn rules(
     way: &[u64],
     wants: &[u64],
     stack: &[u64],
-    at: Point,
+    at: Walker,
 ) -> bool
     requires { ⌜ Sizes (now m) (now left) (now way) (now wants) (now stack) ⌝ }
     requires { ⌜ AtPlace (now m) (now left) (now way) (now wants) (now stack) (at .x) (at .p) (at .low) (at .depth) (at .top) ⌝ }
@@ -255,10 +255,10 @@ fn is_clear(left: &[u64]) -> bool
 }
 
 // Behind the stop with the word w, where t stops are left.
-fn back(w: u64, t: usize) -> Point
+fn back(w: u64, t: usize) -> Walker
     ensures { λ r. ⌜ Popped w t (r .x) (r .p) (r .low) (r .depth) (r .top) ⌝ }
 {
-    Point {
+    Walker {
         x: tree::next_of(w) as usize,
         p: tree::parent_of(w) as usize,
         low: tree::cell_of(w) + 1,
@@ -283,7 +283,7 @@ pub fn passes(m: &[u64]) -> bool
     let mut way = [0u64; 33];
     let mut wants = [1u64; 33];
     let mut stack = [0u64; 33];
-    let mut at = Point {
+    let mut at = Walker {
         x: first,
         p: 0,
         low: 0,

@@ -8,7 +8,7 @@ use native.Mathlib.Omega.{arith}
 use native.Mathlib.Decide.{ℕ-discrete}
 use lib.ListN.{length, getD, drop}
 use Rattle.layout.specs.Layout.{ruleNumbers, linksAt}
-use Rattle.bits.specs.Numbers.{has, Member, NumberSet, Puts}
+use Rattle.bits.specs.Numbers.{has, Member, NumberSet, PutsNumber}
 use Rattle.term.specs.Cells.{Row, Blank, blankOf, blankForm}
 use Rattle.term.specs.Machine.{State, at, step, done}
 use Rattle.tree.specs.Shape.{Shape}
@@ -33,7 +33,7 @@ marks-none ws marks s = record { map = s; marks-are = λ k. ((λ x. inl x), of k
     of k (inr x) = absurd (List·Memᴰ·not-nil (x .1))
 
 -- one
-pub marks-one : (ws marks marks′ : List ℕ) (n c : ℕ) → view ws .tree .cell n ≡ c → Puts marks marks′ c → Marked ws marks marks′ (n ∷ [])
+pub marks-one : (ws marks marks′ : List ℕ) (n c : ℕ) → view ws .tree .cell n ≡ c → PutsNumber marks marks′ c → Marked ws marks marks′ (n ∷ [])
 marks-one ws marks marks′ n c e put = record { map = put .is-set; marks-are = λ k. (to k (ℕ-discrete k c), of k (ℕ-discrete k c)) }
   where
     to : (k : ℕ) → Dec (k ≡ c) → Member marks′ k → Member marks k ⊎ ((y : ℕ) × List·Memᴰ y (n ∷ []) × (view ws .tree .cell y ≡ k))
@@ -131,7 +131,7 @@ module _ (ws : List ℕ) (words : (i : ℕ) → getD ws i 0 < 2 ^ 64) (marks₀ 
   pub number-low : c < ruleNumbers
   number-low = subst (λ (k : ℕ). k < ruleNumbers) is-cell (s .low this (subst (List·Memᴰ this) more (Memᴰ·append-left _ (Memᴰ·append-right (s .sofar) (List·Memᴰ·head refl)))))
 
-  pub marks-next : (marks′ : List ℕ) → Puts marks marks′ c → (y : ℕ) → y ≡ nextOf (getD ws (linksAt + x) 0) → Marking ws marks₀ link marks′ y
+  pub marks-next : (marks′ : List ℕ) → PutsNumber marks marks′ c → (y : ℕ) → y ≡ nextOf (getD ws (linksAt + x) 0) → Marking ws marks₀ link marks′ y
   marks-next marks′ put y e = subst (Marking ws marks₀ link marks′) (sym e) (record {
     threaded = beside-threaded ws x (s .threaded) some;
     sofar = s .sofar ++ (this ∷ []);
