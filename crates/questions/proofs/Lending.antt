@@ -1,4 +1,5 @@
 -- Lending is splitting and joining: what is lent leaves a claim behind, and the claim and what came back are the whole again.
+-- And the steps that the walks share: a point is taken out of a list or put into it, a flag is owned, a shared slice is had twice.
 use mathlib.Core.Path.{_≡_, sym, ap, subst, refl}
 use Prim.Native.Nat.{ℕ, _<_}
 use mathlib.Core.Bool.{Bool}
