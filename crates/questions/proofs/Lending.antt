@@ -1,4 +1,5 @@
 -- Lending is splitting and joining: what is lent leaves a claim behind, and the claim and what came back are the whole again.
+-- And the steps that the walks share: a point is taken out of a list or put into it, a flag is owned, a shared slice is had twice.
 use mathlib.Core.Path.{_≡_, sym, ap, subst, refl}
 use Prim.Native.Nat.{ℕ, _<_}
 use mathlib.Core.Bool.{Bool}
@@ -13,7 +14,8 @@ use base.Logic.{ent, sep, ex}
 use base.Fml.{Lft, GName, Share, Fml, fsep, flft, fdead, fobs, fauth, flent, fobor, fat, froom}
 use prog.Wp.{Heap}
 use ghost.Atoms.{Atoms, sem}
-use types.Kit.{Given, Item, Goal, Seq, Step, step, ‵, _⊛_, some, later, _$_, _∵_, !, qed, move, use1, use3, drop, split, pick, fsplit, fjoin, frame, await, updating, now as at-once, show, done, rewrite, fpick, fpack, feqI}
+use types.Kit.{Given, Item, Goal, Seq, Step, step, ‵, _⊛_, some, later, _$_, _∵_, !, qed, move, use1, use3, drop, split, pick, fsplit, fjoin, frame, await, updating}
+use types.Kit.{now as at-once, show, done, rewrite, fpick, fpack, feqI}
 use types.SemTy.{cells, Arr}
 use denote.RattleType.{RattleType}
 use denote.Shadow.{pureL, pureI}
