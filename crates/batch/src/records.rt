@@ -76,7 +76,7 @@ fn has_room(marks: &[u64], room: usize) -> bool
     if Book::RULES < room {
         return true;
     }
-    questions::count(marks) < room
+    questions::listing::count(marks) < room
 }
 
 // Lists the rules that answer a question, by whether its own blanks and the rule's may be filled. Whether they have room is known before anything is written. The marks are memory to
@@ -99,7 +99,7 @@ pub fn ask(
     if !has_room(marks, out.len()) {
         return 0;
     }
-    let count = questions::list(marks, &mut out[1..]);
+    let count = questions::listing::list(marks, &mut out[1..]);
     out[0] = count as u16;
     count + 1
 }

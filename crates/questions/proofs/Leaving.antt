@@ -16,10 +16,10 @@ use Rattle.tree.specs.Search.{keep, hits, size}
 use Rattle.tree.specs.Unfolded.{no-trie, opens}
 use Rattle.book.specs.Memory.{view}
 use Rattle.questions.specs.declared.Point.{Point}
-use Rattle.questions.specs.declared.Ways.{Ways}
+use Rattle.questions.specs.declared.trying.Ways.{Ways}
 use Rattle.questions.specs.Walk.{Walk, reading, next, good, failed-none}
 use Rattle.questions.specs.Promises.{walkBefore, walkAfter, Skips, stay, skip-on, Threaded, sizeAt, heightAt, hitsAt, Ready, beside, siblings, Left, PassesNode}
-use Rattle.questions.proofs.Seeking.{any-met, met-step}
+use Rattle.questions.proofs.Siblings.{any-met, met-step}
 use Rattle.questions.proofs.Threads.{tree, bound, word-of, beside-threaded}
 
 pub positive : (t : Trie) → 0 < size t

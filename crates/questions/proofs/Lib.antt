@@ -1,10 +1,10 @@
 -- Why the search does what it promises.
 pub mod Threads
 pub mod Leaps
-pub mod Seeking
+pub mod Siblings
 pub mod Leaving
 pub mod Marking
-pub mod Turning
+pub mod Turns
 pub mod Searching
 pub mod Walking
 pub mod Lending

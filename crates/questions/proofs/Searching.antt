@@ -23,7 +23,7 @@ use Rattle.book.specs.Memory.{view, term, Passing, rulesIn}
 use Rattle.book.specs.Holding.{at-holds, holds-at}
 use Rattle.book.specs.Promises.{IsTerm}
 use Rattle.questions.specs.declared.Point.{Point}
-use Rattle.questions.specs.declared.Points.{Points}
+use Rattle.questions.specs.declared.turning.Points.{Points}
 use Rattle.questions.specs.Demand2.{term-form}
 use Rattle.questions.specs.Walk.{next, good, found, found-rule, rule-found}
 use Rattle.questions.specs.Promises.{walkBefore, sizeAt, heightAt, hitsAt, Ready, Marked, Parts, Steady, Goes, gone, parts, Went, Rooted, Answering, Searched}

@@ -18,8 +18,8 @@ use Rattle.tree.specs.Promises.{Onward}
 use Rattle.book.specs.Rules.{rule}
 use Rattle.book.specs.Memory.{view, Passing, rulesIn}
 use Rattle.questions.specs.declared.Point.{Point}
-use Rattle.questions.specs.declared.Ways.{Ways}
-use Rattle.questions.specs.declared.Points.{Points}
+use Rattle.questions.specs.declared.trying.Ways.{Ways}
+use Rattle.questions.specs.declared.turning.Points.{Points}
 use Rattle.questions.specs.Asking.{numbers}
 use Rattle.questions.specs.Walk.{Walk, reading, next, good}
 

@@ -56,19 +56,19 @@ use Rattle.bits.specs.Numbers.{NumberSet}
 use Rattle.book.specs.Memory.{Passing}
 use Rattle.book.specs.Promises.{IsTerm}
 use Rattle.questions.specs.declared.Point.{Point}
-use Rattle.questions.specs.declared.Points.{Points}
+use Rattle.questions.specs.declared.turning.Points.{Points}
 use Rattle.questions.specs.Promises.{Steady, Went, Rooted, Searched}
 use Rattle.questions.proofs.Searching.{left, Loop, ends, stood, turned, starts-out}
 use Rattle.questions.proofs.Walking.{Locals, joined, fresh, filled, empty, holding, dying, slot, local, part, pass, frees-all}
 use Rattle.questions.proofs.Lending.{R, Claim, lend-on, take-back, point-fits, point-owned, flag-owned, shared-twice, point-out, point-put}
 use Rattle.questions.proofs.Point as T
 use Rattle.questions.proofs.Point.Laws as T′
-use Rattle.questions.proofs.Points as P
-use Rattle.questions.proofs.Points.Laws as P′
-use Rattle.questions.proofs.turn as turn
-use Rattle.questions.proofs.turn.Symbol as turn-def
-use Rattle.questions.proofs.turn.Symbol.{name as #questions·turn}
-use Rattle.questions.proofs.turn.Met as turn-thm
+use Rattle.questions.proofs.turning.Points as P
+use Rattle.questions.proofs.turning.Points.Laws as P′
+use Rattle.questions.proofs.turning.turn as turn
+use Rattle.questions.proofs.turning.turn.Symbol as turn-def
+use Rattle.questions.proofs.turning.turn.Symbol.{name as #turn}
+use Rattle.questions.proofs.turning.turn.Met as turn-thm
 use Rattle.questions.proofs.search.Key.{name as #questions·search}
 use Rattle.questions.proofs.search as search′
 use Rattle.questions.proofs.search.Statement as stated
@@ -112,7 +112,7 @@ round = seq (assign (place 11 []) (op2 (lt unsigned) (int w64 0) (copy (place 7 
     (seq (assign (place 9 []) (rvOpd (copy (place 14 []))))
     (seq (assign (place 15 []) (addrOf (place 5 (field 0 ∷ deref word ∷ []))))
     (seq (assign (place 16 []) (aggregate (copy (place 15 []) ∷ copy (place 5 (field 1 ∷ [])) ∷ [])))
-    (seq (call #questions·turn (copy (place 1 []) ∷ copy (place 2 []) ∷ copy (place 3 []) ∷ copy (place 4 []) ∷ copy (place 16 []) ∷ copy (place 9 []) ∷ copy (place 7 []) ∷ []) (place 10 []))
+    (seq (call #turn (copy (place 1 []) ∷ copy (place 2 []) ∷ copy (place 3 []) ∷ copy (place 4 []) ∷ copy (place 16 []) ∷ copy (place 9 []) ∷ copy (place 7 []) ∷ []) (place 10 []))
     (seq (assign (place 12 []) (op2 (mul unsigned) (copy (place 8 [])) (int w64 6)))
     (seq (assign (place 17 []) (op2 offset (copy (place 6 (field 0 ∷ []))) (copy (place 12 []))))
     (seq (assign (place 17 (deref T′.mir ∷ [])) (rvOpd (copy (place 10 (field 0 ∷ [])))))
@@ -264,7 +264,7 @@ module _ {M : Type 1} (𝓤 : URA M) (H : Heap 𝓤) (A : Atoms 𝓤) (W : Given
   abbrev args : List Val
   args = vm ∷ vbool fq ∷ vbool fr ∷ vq ∷ vk ms ∷ vl ∷ []
 
-  module _ (𝓣 : Tables 𝓤 H) (known : Triple 𝓤 (𝓣 .C #questions·turn) Turn) (l₀ l₁ l₂ l₃ l₄ l₅ l₆ l₇ l₈ l₉ l₁₀ l₁₁ l₁₂ l₁₃ l₁₄ l₁₅ l₁₆ l₁₇ l₁₈ l₁₉ l₂₀ : ℕ) where
+  module _ (𝓣 : Tables 𝓤 H) (known : Triple 𝓤 (𝓣 .C #turn) Turn) (l₀ l₁ l₂ l₃ l₄ l₅ l₆ l₇ l₈ l₉ l₁₀ l₁₁ l₁₂ l₁₃ l₁₄ l₁₅ l₁₆ l₁₇ l₁₈ l₁₉ l₂₀ : ℕ) where
     abbrev C : Calls 𝓤 H
     C = 𝓣 .C
 
@@ -501,7 +501,7 @@ module _ {M : Type 1} (𝓤 : URA M) (H : Heap 𝓤) (A : Atoms 𝓤) (W : Given
         pass1 ! (init ! 32 refl (tt, (tt, (record { fits = room-q .0 }, tt)))) $
         pass1 ! (init ! 30 refl (tt, (tt, (record { fits = room-k .0 }, tt)))) $ pass1 ! (init ! 28 refl (tt, (tt, (record { fits = room .0 }, tt)))) $ pass0 ! $ bodies
 
-  runs-on : (𝓣 : Tables 𝓤 H) → Triple 𝓤 (𝓣 .C #questions·turn) (Turns 𝓤 H A at-mem run) → ent 𝓤 (⋆ 𝓤 H A (Had ms ys)) (WpFn 𝓤 H (𝓣 .C) (𝓣 .Λ) code.function args Post)
+  runs-on : (𝓣 : Tables 𝓤 H) → Triple 𝓤 (𝓣 .C #turn) (Turns 𝓤 H A at-mem run) → ent 𝓤 (⋆ 𝓤 H A (Had ms ys)) (WpFn 𝓤 H (𝓣 .C) (𝓣 .Λ) code.function args Post)
   runs-on 𝓣 known =
       qed W (Had ms ys) ∵ enter ! (𝓣 .C) (𝓣 .Λ) code.function args _ $
       alloc1 ! (λ l₀. alloc1 ! (λ l₁. alloc1 ! (λ l₂. alloc1 ! (λ l₃. alloc1 ! (λ l₄. alloc1 ! (λ l₅. alloc1 ! (λ l₆.
@@ -509,7 +509,7 @@ module _ {M : Type 1} (𝓤 : URA M) (H : Heap 𝓤) (A : Atoms 𝓤) (W : Given
       alloc1 ! (λ l₁₄. alloc1 ! (λ l₁₅. alloc1 ! (λ l₁₆. alloc1 ! (λ l₁₇. alloc1 ! (λ l₁₈. alloc1 ! (λ l₁₉. alloc1 ! (λ l₂₀.
       alloc0 ! $ passing 𝓣 known l₀ l₁ l₂ l₃ l₄ l₅ l₆ l₇ l₈ l₉ l₁₀ l₁₁ l₁₂ l₁₃ l₁₄ l₁₅ l₁₆ l₁₇ l₁₈ l₁₉ l₂₀)))))))))))))))))))))
 
-  walk : (𝓣 : Tables 𝓤 H) → Triple 𝓤 (𝓣 .C #questions·turn) (Turns 𝓤 H A at-mem run)
+  walk : (𝓣 : Tables 𝓤 H) → Triple 𝓤 (𝓣 .C #turn) (Turns 𝓤 H A at-mem run)
       → ent 𝓤 (onEntry 𝓤 H A search′.signature (κ₀, (κ₁, (κ₂, (κ₃, tt)))) (q₀, (q₁, (q₂, (q₃, tt)))) a vals) (WpFn 𝓤 H (𝓣 .C) (𝓣 .Λ) code.function args Post)
   walk 𝓣 known =
       qed W ((‵ (flft κ₀ q₀) ⊛ ‵ (flft κ₁ q₁) ⊛ ‵ (flft κ₂ q₂) ⊛ ‵ (flft κ₃ q₃) ⊛ ‵ ftrue)
@@ -522,7 +522,7 @@ module _ {M : Type 1} (𝓤 : URA M) (H : Heap 𝓤) (A : Atoms 𝓤) (W : Given
       keep ! (4 ∷ 5 ∷ 0 ∷ 6 ∷ 1 ∷ 8 ∷ 3 ∷ 7 ∷ 2 ∷ []) $ by ! (runs-on 𝓣 known)
 
 module _ {M : Type 1} (𝓤 : URA M) (H : Heap 𝓤) (A : Atoms 𝓤) (W : Given 𝓤 H A) (at-mem : Memory → SProp 𝓤) (run : Routine → Fun 𝓤)
-    (𝓣 : Tables 𝓤 H) (known : Triple 𝓤 (𝓣 .C #questions·turn) (Turns 𝓤 H A at-mem run)) where
+    (𝓣 : Tables 𝓤 H) (known : Triple 𝓤 (𝓣 .C #turn) (Turns 𝓤 H A at-mem run)) where
   abbrev Runs : List Val → (Val → SProp 𝓤) → SProp 𝓤
   Runs = WpFn 𝓤 H (𝓣 .C) (𝓣 .Λ) code.function
 
@@ -575,4 +575,4 @@ search-spec 𝓤 H 𝓜 𝓖 𝓡 =
     entered 𝓤 H (tripleOf 𝓤 H (𝓖 .A) search′.signature (search′.spec 𝓤 H (𝓖 .A) (𝓜 .mem) (𝓡 .run)))
     (tables 𝓤 H 𝓜 𝓡 code.env .C) (tables 𝓤 H 𝓜 𝓡 code.env .Λ) #questions·search code.function (code.unfolded 𝓤 H 𝓜 𝓡)
     (search-meets 𝓤 H (𝓖 .A) (givenOf 𝓤 H 𝓜 𝓖) (𝓜 .mem) (𝓡 .run) (tablesOf 𝓤 H 𝓜 (tables 𝓤 H 𝓜 𝓡 code.env))
-    (cited 𝓤 H (Turns 𝓤 H (𝓖 .A) (𝓜 .mem) (𝓡 .run)) 𝓜 𝓡 code.env #questions·turn turn-def.routine code.calls-questions·turn (turn-thm.met 𝓤 H 𝓜 𝓖 𝓡)))
+    (cited 𝓤 H (Turns 𝓤 H (𝓖 .A) (𝓜 .mem) (𝓡 .run)) 𝓜 𝓡 code.env #turn turn-def.routine code.calls-questions·turning·turn (turn-thm.met 𝓤 H 𝓜 𝓖 𝓡)))

@@ -10,8 +10,8 @@ use Rattle.tree.specs.Trie.{trie, height}
 use Rattle.tree.specs.Search.{size}
 use Rattle.book.specs.Memory.{view}
 use Rattle.questions.specs.declared.Point.{Point}
-use Rattle.questions.specs.declared.Points.{Points}
-use Rattle.questions.specs.declared.Ways.{Ways}
+use Rattle.questions.specs.declared.turning.Points.{Points}
+use Rattle.questions.specs.declared.trying.Ways.{Ways}
 use Rattle.questions.specs.Promises.{sizeAt, heightAt, hitsAt, Ready, Marked, besideOf, belowOf, Tried, Parted, Parts, gone, parts, Went}
 use Rattle.questions.proofs.Leaving.{positive, tip-at, nothing-at, empty, few-here}
 use Rattle.questions.proofs.Marking.{marks-none, marks-on}

@@ -1,8 +1,8 @@
 -- Where the machine has to meet one cell that can't be filled, that cell decides.
 use borrow.Author.Needs.{needs}
-use Rattle.questions.proofs.Seeking.{one-symbol, no-symbols, any-cell}
-use Rattle.questions.proofs.wanted.Statement.{statement}
-use Rattle.questions.proofs.wanted.Tie as tie
+use Rattle.questions.proofs.Siblings.{one-symbol, no-symbols, any-cell}
+use Rattle.questions.proofs.trying.wanted.Statement.{statement}
+use Rattle.questions.proofs.trying.wanted.Tie as tie
 
 pub wanted-spec : {M : Type 1} → statement M
 wanted-spec =

@@ -8,10 +8,10 @@ use Rattle.layout.specs.Layout.{lastLink, bookWords}
 use Rattle.questions.specs.declared.Point.{Point}
 use Rattle.questions.specs.Promises.{Skips, Left}
 use Rattle.questions.proofs.Threads.{in-tree}
-use Rattle.questions.proofs.Seeking.{seeking}
+use Rattle.questions.proofs.Siblings.{seeking}
 use Rattle.questions.proofs.Leaving.{cell-fits, skipped, meets-none, meets-on, meets-not}
-use Rattle.questions.proofs.meet_node.Statement.{statement}
-use Rattle.questions.proofs.meet_node.Tie as tie
+use Rattle.questions.proofs.trying.meet_node.Statement.{statement}
+use Rattle.questions.proofs.trying.meet_node.Tie as tie
 
 module _ (k : tie.After-sibling) where
   abbrev start : tie.Start

@@ -8,8 +8,8 @@ use Rattle.layout.specs.Layout.{lastLink, bookWords}
 use Rattle.questions.specs.Promises.{sizeAt, siblings}
 use Rattle.questions.proofs.Threads.{in-tree}
 use Rattle.questions.proofs.Marking.{Marking, begins, marks-next, number-low, fewer, marks-all}
-use Rattle.questions.proofs.mark_rules.Statement.{statement}
-use Rattle.questions.proofs.mark_rules.Tie as tie
+use Rattle.questions.proofs.trying.mark_rules.Statement.{statement}
+use Rattle.questions.proofs.trying.mark_rules.Tie as tie
 
 abbrev Inv-loop : tie.InvT-loop
 Inv-loop m marks₀ link x₀ marks x = (length marks ≡ length marks₀) × Marking m marks₀ link marks x

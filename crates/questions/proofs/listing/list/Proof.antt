@@ -5,8 +5,8 @@ use native.Mathlib.Omega.{arith}
 use Rattle.layout.specs.Layout.{ruleNumbers}
 use Rattle.bits.specs.Numbers.{restOf}
 use Rattle.questions.proofs.Writing.{Written, begins, place-in, few, less, writes, written, still-long}
-use Rattle.questions.proofs.list.Statement.{statement}
-use Rattle.questions.proofs.list.Tie as tie
+use Rattle.questions.proofs.listing.list.Statement.{statement}
+use Rattle.questions.proofs.listing.list.Tie as tie
 
 abbrev Inv-loop : tie.InvT-loop
 Inv-loop marks out₀ n₀ s₀ out n s = Written marks out₀ out n (s .at) × (s .at < ruleNumbers → s .rest ≡ restOf marks (s .at))

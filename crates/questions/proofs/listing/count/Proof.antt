@@ -3,8 +3,8 @@ use Prim.Native.Nat.{_-_}
 use native.Mathlib.Omega.{arith}
 use Rattle.layout.specs.Layout.{ruleNumbers}
 use Rattle.questions.proofs.Writing.{Counted, begins-count, few, counts-on, less, all-counted}
-use Rattle.questions.proofs.count.Statement.{statement}
-use Rattle.questions.proofs.count.Tie as tie
+use Rattle.questions.proofs.listing.count.Statement.{statement}
+use Rattle.questions.proofs.listing.count.Tie as tie
 
 abbrev Inv-loop : tie.InvT-loop
 Inv-loop marks n₀ k₀ n k = Counted marks n k

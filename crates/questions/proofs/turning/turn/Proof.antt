@@ -8,9 +8,9 @@ use Rattle.questions.specs.declared.Point.{Point}
 use Rattle.questions.specs.Promises.{sizeAt, Ready, Small}
 use Rattle.questions.proofs.Threads.{in-tree}
 use Rattle.questions.proofs.Leaving.{few-here}
-use Rattle.questions.proofs.Turning.{Turning, begins, ends, passes, turns-back, back-less, descends, leaves-one, parts-here}
-use Rattle.questions.proofs.turn.Statement.{statement}
-use Rattle.questions.proofs.turn.Tie as tie
+use Rattle.questions.proofs.Turns.{Turning, begins, ends, passes, turns-back, back-less, descends, leaves-one, parts-here}
+use Rattle.questions.proofs.turning.turn.Statement.{statement}
+use Rattle.questions.proofs.turning.turn.Tie as tie
 
 abbrev Inv-loop : tie.InvT-loop
 Inv-loop m fills-question fills-rule question marks₀ p depth x₀ skip₀ at₀ waits₀ waits-skip₀ waits-at₀ marks x skip at waits waits-skip waits-at =

@@ -7,8 +7,8 @@ use native.Mathlib.Omega.{arith}
 use Rattle.tree.specs.Words.{cellOf}
 use Rattle.questions.specs.Promises.{Reach}
 use Rattle.questions.proofs.Leaps.{up-to-it}
-use Rattle.questions.proofs.onward.Statement.{statement}
-use Rattle.questions.proofs.onward.Tie as tie
+use Rattle.questions.proofs.seeking.onward.Statement.{statement}
+use Rattle.questions.proofs.seeking.onward.Tie as tie
 
 past : (cell c : ℕ) → cell ≤ c → ¬ (c ≡ cell) → Reach cell c 32768
 past cell c h n = record { low = omega arith; between = λ k l m e. n (omega arith) }

@@ -5,8 +5,8 @@ use Prim.Native.Nat.{ℕ, _+_}
 use native.Mathlib.Omega.{arith}
 use Rattle.term.specs.Cells.{arity, blankOf}
 use Rattle.questions.proofs.Leaving.{cell-fits}
-use Rattle.questions.proofs.pass_node.Statement.{statement}
-use Rattle.questions.proofs.pass_node.Tie as tie
+use Rattle.questions.proofs.trying.pass_node.Statement.{statement}
+use Rattle.questions.proofs.trying.pass_node.Tie as tie
 
 cast-arity : tie.Need-cast-arity
 cast-arity c = record { fits = cell-fits _ _ (c .cell-of .ensures) (c .before .before .shared-slice-known .given _ .fits) }

@@ -15,8 +15,8 @@ use Rattle.book.specs.Memory.{view}
 use Rattle.questions.specs.Promises.{PassesBy, Reach, Sought, reached, beyond, Threaded}
 use Rattle.questions.proofs.Threads.{in-tree}
 use Rattle.questions.proofs.Leaps.{Leapt, leaps, steps}
-use Rattle.questions.proofs.sibling.Statement.{statement}
-use Rattle.questions.proofs.sibling.Tie as tie
+use Rattle.questions.proofs.seeking.sibling.Statement.{statement}
+use Rattle.questions.proofs.seeking.sibling.Tie as tie
 
 abbrev Inv-loop : tie.InvT-loop
 Inv-loop m cell last link x₀ x = Threaded m x × PassesBy m cell link x

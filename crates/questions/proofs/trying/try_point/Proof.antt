@@ -11,8 +11,8 @@ use Rattle.questions.specs.Promises.{siblings, Ready, Left}
 use Rattle.questions.proofs.Threads.{in-tree}
 use Rattle.questions.proofs.Leaving.{few-here, all-gone, passing, filling}
 use Rattle.questions.proofs.Marking.{marks-none, all-answer, numbered}
-use Rattle.questions.proofs.try_point.Statement.{statement}
-use Rattle.questions.proofs.try_point.Tie as tie
+use Rattle.questions.proofs.trying.try_point.Statement.{statement}
+use Rattle.questions.proofs.trying.try_point.Tie as tie
 
 module _ (k : tie.After-slice-known) where
   abbrev start : tie.Start

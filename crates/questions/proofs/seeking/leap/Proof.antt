@@ -13,8 +13,8 @@ use Rattle.book.specs.Memory.{view}
 use Rattle.questions.specs.Promises.{start, Begins, Threaded}
 use Rattle.questions.proofs.Threads.{in-tree}
 use Rattle.questions.proofs.Leaps.{leaps, up-to-it}
-use Rattle.questions.proofs.leap.Statement.{statement}
-use Rattle.questions.proofs.leap.Tie as tie
+use Rattle.questions.proofs.seeking.leap.Statement.{statement}
+use Rattle.questions.proofs.seeking.leap.Tie as tie
 
 here : (ws : List ℕ) (cell link : ℕ) → Threaded ws link → Begins ws cell link link
 here ws cell link t = record { threaded = t; by = start }
