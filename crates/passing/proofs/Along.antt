@@ -8,7 +8,7 @@ use native.Mathlib.Decide.{decLt}
 use lib.ListN.{length, getD, take}
 use Rattle.layout.specs.Layout.{ruleNumbers, nodesLimit, linksAt, firstRule, rulesAt, lastLink, treeWords}
 use Rattle.term.specs.Counting.{true≢false}
-use Rattle.tree.specs.Shape.{after, Used, to, Fits}
+use Rattle.tree.specs.Shape.{after, Used, Fits}
 use Rattle.tree.specs.Rows.{end-childless}
 use Rattle.tree.specs.Leaves.{endOf, rows-free}
 use Rattle.tree.specs.Tally.{tally, marked}
@@ -17,11 +17,13 @@ use Rattle.tree.specs.Words.{cellOf, parentOf, firstOf, nextOf, word}
 use Rattle.tree.specs.Stops.{Standing, go-along}
 use Rattle.book.specs.Memory.{view, leaf, taken}
 use Rattle.book.specs.Holding.{hanging, taken-leaf}
-use Rattle.passing.specs.Wanted.{wants, Hangs, Told, Bare, ended-right}
-use Rattle.passing.specs.State.{AtPlace, AllFound, Sizes, RuleAt, RuleDecided, AskedRule, RuleEntered, Ruled}
+use Rattle.passing.specs.Wanted.{Hangs, Told, Bare, ended-right}
+use Rattle.passing.specs.State.{AtPlace, AllFound, Sizes, AskedRule, RuleEntered, Ruled}
 use Rattle.book.specs.Looking.{nodes-low, rule-number}
 use Rattle.passing.proofs.Downing.{node-word, meets, no-dead-end, kept-counts, wanted-is}
 use Rattle.passing.proofs.Ruling.{rule-hangs, hangs-rule}
+use Rattle.recorded.specs.Way.{wants}
+use Rattle.recorded.specs.Promises.{RuleAt, RuleDecided}
 
 pub record Ruling (ws left₀ left way ks stack : List ℕ) (x p low depth top : ℕ) : Type 0 where
   pub sizes : Sizes ws left way ks stack

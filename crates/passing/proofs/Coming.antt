@@ -14,7 +14,8 @@ use Rattle.term.specs.Counting.{true≢false}
 use Rattle.tree.specs.Tally.{marked}
 use Rattle.tree.specs.Tallies.{mark-here, mark-other}
 use Rattle.tree.specs.Words.{cellOf, parentOf, firstOf, nextOf, Node}
-use Rattle.passing.specs.State.{numbered, Come, Pushed, AskedNode, Entered, AskedRule, RuleEntered}
+use Rattle.passing.specs.State.{Come, Pushed, AskedNode, Entered, AskedRule, RuleEntered}
+use Rattle.recorded.specs.Way.{numbered}
 
 module _ (left : List ℕ) (w n p low : ℕ) where
   stays : (parentOf w ≡ p → low ≤ cellOf w → ¬ (marked left n ≡ true)) → Come left left w n p low false

@@ -1,7 +1,7 @@
 -- One step down keeps what the walk stands on; and where all is found that the check asks for, the node that the walk comes to is as asked.
 use mathlib.Core.Path.{_≡_, refl, sym, ap, _∙_, subst}
 use mathlib.Core.Logic.{_⊎_, inl, inr}
-use mathlib.Core.List.{List, [], _∷_, _++_, map, List·Memᴰ, List·Memᴰ·head, List·Memᴰ·tail, List·Memᴰ·cases-cons}
+use mathlib.Core.List.{List, [], _∷_, _++_, map, List·Memᴰ, List·Memᴰ·head, List·Memᴰ·cases-cons}
 use mathlib.Core.Bool.{Bool, true, false}
 use Prim.Native.Nat.{ℕ, zero, suc, _+_, _-_, _*_, _/_, _%_, _≤_, _<_}
 use native.Mathlib.Omega.{arith}
@@ -18,16 +18,14 @@ use Rattle.tree.specs.Words.{cellOf, parentOf, firstOf, nextOf, word, Node}
 use Rattle.tree.specs.Down.{fresh, known-valid}
 use Rattle.tree.specs.Stops.{Stop, stop, beside, along-up, along-few, Standing, go-down, go-last}
 use Rattle.book.specs.Memory.{View, view}
-use Rattle.passing.specs.Wanted.{wants, Told, Bare, whole-row}
-use Rattle.passing.specs.State.{blanks, counts, numbered, wordOf, Kept, none, more, Stacked, Low, AtPlace, AllFound, Sizes, AskedNode, Entered, Pushed, Downed}
+use Rattle.recorded.specs.WayCells.{kept-word, blanks-low}
+use Rattle.passing.specs.Wanted.{Told, Bare, whole-row}
+use Rattle.passing.specs.State.{none, more, Stacked, AtPlace, AllFound, Sizes, AskedNode, Entered, Pushed, Downed}
 use Rattle.passing.specs.State as state
 use Rattle.book.specs.Looking.{nodes-low}
+use Rattle.recorded.specs.Way.{wants, blanks, counts, numbered, wordOf, Kept, none, more, Low}
 
 -- ---- the arrays
-
-pub kept-word : {way ks r : List ℕ} → Kept way ks r → getD way (length r) 0 ≡ wordOf r
-kept-word (none a b) = a
-kept-word (more a b h k) = a
 
 pub kept-counts : {way ks r : List ℕ} → Kept way ks r → getD ks (length r) 0 ≡ counts r
 kept-counts (none a b) = b
@@ -63,10 +61,6 @@ stacked-many (more w s) = ap suc (stacked-many s)
 wants-low : (r : List ℕ) → wants r ≤ 1 + 7 * length r
 wants-low [] = omega arith
 wants-low (c ∷ r) = let h = wants-low r in omega arith
-
-pub blanks-low : (r : List ℕ) → Low r → blanks r ≤ length r
-blanks-low [] h = omega arith
-blanks-low (c ∷ r) h = let a = blanks-low r (λ d i. h d (List·Memᴰ·tail i)) in let b = h c (List·Memᴰ·head refl) in omega arith
 
 pub wanted-is : (r : List ℕ) → length r ≤ 32 → counts r % 65536 ≡ wants r
 wanted-is r h = let a = wants-low r in go (blanks r) (wants r) (omega arith)

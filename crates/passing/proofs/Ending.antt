@@ -11,18 +11,18 @@ use Rattle.deciding.specs.Deciding.{Decides}
 use Rattle.layout.specs.Layout.{mapWords, linksAt, treeWords, bookWords}
 use Rattle.bits.specs.Packed.{bits}
 use Rattle.term.specs.Counting.{true≢false}
-use Rattle.tree.specs.Shape.{child, after, to}
+use Rattle.tree.specs.Shape.{child, after}
 use Rattle.tree.specs.Tally.{marked}
 use Rattle.tree.specs.Tallies.{same-bits, no-mark}
 use Rattle.tree.specs.Words.{cellOf, parentOf, firstOf, nextOf, word}
 use Rattle.tree.specs.Down.{Walking, ended, all-seen}
-use Rattle.tree.specs.Stops.{Stop, stop, Standing, set-off, go-end, go-back}
+use Rattle.tree.specs.Stops.{Stop, Standing, set-off, go-end, go-back}
 use Rattle.book.specs.Memory.{view, Passing}
-use Rattle.passing.specs.Promises.{Checks}
 use Rattle.passing.specs.Wanted.{Told, Bare, ended-right, right-ended}
-use Rattle.passing.specs.State.{Kept, none, more, Stacked, Low, AtPlace, AllFound, Sizes, Over, Popped, Clear}
+use Rattle.passing.specs.State.{none, more, Stacked, AtPlace, AllFound, Sizes, Over, Popped, Clear}
 use Rattle.book.specs.Looking.{inside, nodes-low}
 use Rattle.passing.proofs.Downing.{kept-back}
+use Rattle.recorded.specs.Way.{Kept, none, more, Low}
 
 -- ---- the maps' words
 
@@ -52,10 +52,10 @@ clear-no left long n h = n (same-bits left (replicate mapWords 0) (long ∙ sym 
 pub found-passes : (ws : List ℕ) → length ws ≡ bookWords → AllFound ws → Passing ws
 found-passes ws size f = record { size = size; right = ended-right (view ws) (nodes-low ws size) f }
 
-pub answers-no : (ws : List ℕ) → ¬ (AllFound ws) → Checks ws false
+pub answers-no : (ws : List ℕ) → ¬ (AllFound ws) → Decides (Passing ws) false
 answers-no ws n = record { yes = λ q. absurd (true≢false q refl); no = λ q p. n (right-ended (view ws) (nodes-low ws (p .size)) (p .right)) }
 
-pub walked : (ws left : List ℕ) → length ws ≡ bookWords → Walking (view ws .tree) Bare (Told (view ws)) [] (marked left) → (r : Bool) → Decides (Clear left) r → Checks ws r
+pub walked : (ws left : List ℕ) → length ws ≡ bookWords → Walking (view ws .tree) Bare (Told (view ws)) [] (marked left) → (r : Bool) → Decides (Clear left) r → Decides (Passing ws) r
 walked ws left size w r d = record {
   yes = λ q. found-passes ws size (ended (view ws .tree) Bare (Told (view ws)) (marked left) w (d .yes q));
   no = λ q p. let f = right-ended (view ws) (nodes-low ws size) (p .right) in d .no q (λ n. gone f n (marked left n) refl);
@@ -75,7 +75,7 @@ module _ (ws left : List ℕ) (size : length ws ≡ bookWords) (el : left ≡ ta
   root-word : word (take treeWords ws) 0 ≡ getD ws linksAt 0
   root-word = getD-take treeWords ws linksAt 0 (omega arith)
 
-  pub no-child : (x : ℕ) → x ≡ firstOf (getD ws linksAt 0) → x ≡ 0 → (r : Bool) → Decides (Clear left) r → Checks ws r
+  pub no-child : (x : ℕ) → x ≡ firstOf (getD ws linksAt 0) → x ≡ 0 → (r : Bool) → Decides (Clear left) r → Decides (Passing ws) r
   no-child x e z r d = walked ws left size
       (go-end (view ws .tree) Bare (Told (view ws)) (marked left) (child 0) [] [] first-standing refl (ap firstOf root-word ∙ sym e ∙ z) tt) r d
 
@@ -99,7 +99,7 @@ module _ (ws left : List ℕ) (size : length ws ≡ bookWords) (el : left ≡ ta
 -- ---- at the end of a list of siblings
 
 module _ (ws left way ks stack : List ℕ) (depth top : ℕ) (size : length ws ≡ bookWords) (o : Over ws left way ks stack depth top) where
-  pub walk-over : top ≡ 0 → (r : Bool) → Decides (Clear left) r → Checks ws r
+  pub walk-over : top ≡ 0 → (r : Bool) → Decides (Clear left) r → Decides (Passing ws) r
   walk-over z r d = walked ws left size
       (go-end (view ws .tree) Bare (Told (view ws)) (marked left) (o .place) (o .row) (o .stops) (o .standing) (no-stops (subst (λ (k : ℕ). Stacked (view ws .tree) stack k (o .stops)) z (o .stacked))) (o .leads) (o .bare)) r d
     where
@@ -145,7 +145,7 @@ pub record Checking (ws left way ks stack : List ℕ) (x p low depth top : ℕ) 
   pub sizes : Sizes ws left way ks stack
   pub at : AtPlace ws left way ks stack x p low depth top
 
-pub wrong-length : (ws : List ℕ) → ¬ (length ws ≡ bookWords) → Checks ws false
+pub wrong-length : (ws : List ℕ) → ¬ (length ws ≡ bookWords) → Decides (Passing ws) false
 wrong-length ws n = record { yes = λ q. absurd (true≢false q refl); no = λ q p. n (p .size) }
 
 pub sizes-first : (ws left : List ℕ) → length ws ≡ bookWords → left ≡ take mapWords ws → Sizes ws left (replicate 33 0) (replicate 33 1) (replicate 33 0)

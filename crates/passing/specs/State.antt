@@ -1,56 +1,24 @@
 -- What the walk keeps in its arrays: for each depth the last cells of the row and what is still wanted, and the words of its stops.
 use mathlib.Core.Path.{_≡_}
-use mathlib.Core.List.{List, [], _∷_, List·Memᴰ}
+use mathlib.Core.List.{List, [], _∷_}
 use mathlib.Core.Bool.{Bool, true, false}
-use Prim.Native.Nat.{ℕ, zero, suc, _+_, _-_, _*_, _/_, _%_, _≤_, _<_}
-use lib.Dec.{ltb}
-use lib.ListN.{length, getD, set, take, drop}
-use Rattle.deciding.specs.Deciding.{pick}
-use Rattle.layout.specs.Layout.{ruleNumbers, nodesLimit, mapWords, linksAt, lastLink, termWords, recordWords, termsAt, bookWords}
-use Rattle.bits.specs.Packed.{fields}
-use Rattle.term.specs.Reading.{readTerm}
-use Rattle.term.specs.declared.reading.Reading.the-variants.{Whole}
+use Prim.Native.Nat.{ℕ, zero, suc, _+_, _-_, _%_, _≤_, _<_}
+use lib.ListN.{length, getD, set}
+use Rattle.layout.specs.Layout.{nodesLimit, mapWords, linksAt, lastLink, bookWords}
 use Rattle.tree.specs.Shape.{Shape, Place, to, owner, floor}
 use Rattle.tree.specs.Tally.{tally, marked}
 use Rattle.tree.specs.Words.{cellOf, parentOf, firstOf, nextOf, Node}
 use Rattle.tree.specs.Promises.{Marked}
 use Rattle.tree.specs.Down.{Ended}
 use Rattle.tree.specs.Stops.{Stop, stop, Standing}
-use Rattle.book.specs.Filling.{Zeros}
-use Rattle.book.specs.Memory.{view, number, blankNumber}
-use Rattle.passing.specs.Wanted.{wants, Told, Bare}
-
--- how many blanks a row has
-abbrev pub blanks : List ℕ → ℕ
-blanks [] = 0
-blanks (c ∷ r) = c / 32768 + blanks r
-
--- both counts in one word
-abbrev pub counts : List ℕ → ℕ
-counts r = blanks r * 65536 + wants r
-
--- a cell of the most general term of a form: its blanks are the variables 0, 1, 2 ..
-abbrev pub numbered : (c known : ℕ) → ℕ
-numbered c known = pick (ltb c 32768) c (c + known)
-
--- the last four cells of the most general term, as a record has them
-abbrev pub wordOf : List ℕ → ℕ
-wordOf [] = 0
-wordOf (c ∷ r) = wordOf r % 281474976710656 * 65536 + numbered c (blanks r)
-
--- two arrays have these of each beginning of the way, and each wants something that comes next
-pub data Kept (way ks : List ℕ) : List ℕ → Type 0 where
-  none : getD way 0 0 ≡ 0 → getD ks 0 0 ≡ 1 → Kept way ks []
-  more : {c : ℕ} {r : List ℕ} → getD way (suc (length r)) 0 ≡ wordOf (c ∷ r) → getD ks (suc (length r)) 0 ≡ counts (c ∷ r) → ¬ (wants r ≡ 0)
-      → Kept way ks r → Kept way ks (c ∷ r)
+use Rattle.book.specs.Memory.{view}
+use Rattle.recorded.specs.Way.{Kept, Low}
+use Rattle.passing.specs.Wanted.{Told, Bare}
 
 -- an array has the words of the stops, each with its depth in place of its first child
 pub data Stacked (m : Shape) (stack : List ℕ) : ℕ → List Stop → Type 0 where
   none : Stacked m stack zero []
   more : {k n d : ℕ} {ks : List Stop} → Node (getD stack k 0) (m .cell n) (m .parent n) d (m .next n) → Stacked m stack k ks → Stacked m stack (suc k) (stop n d ∷ ks)
-
-abbrev pub Low : List ℕ → Type 0
-Low r = (c : ℕ) → List·Memᴰ c r → c ≤ 32768
 
 -- The walk stands before the link x, a child of p with a cell of `low` at the least
 pub record AtPlace (ws left way ks stack : List ℕ) (x p low depth top : ℕ) : Type 0 where
@@ -123,38 +91,6 @@ pub record Downed (ws left left′ way ks stack : List ℕ) (x p low depth top :
   pub whole : r ≡ true → getD ks depth 0 % 65536 ≡ 0
   pub fewer : r ≡ true → tally (marked left′) lastLink ≤ tally (marked left) lastLink
   pub no : r ≡ false → ¬ (AllFound ws)
-
--- The words of a record are those of a whole term of this length, and zeros, with the blanks of the way
-pub record TermOf (words way : List ℕ) (depth : ℕ) : Type 0 where
-  pub whole : readTerm (fields words) ≡ Whole depth
-  pub clean : Zeros (fields words) depth
-  pub same : (j : ℕ) → j < depth → blankNumber (getD (fields words) j 0) ≡ blankNumber (getD way (j + 1) 0 % 65536)
-
--- The words of a record are those of the way, cell by cell, and zeros: then it is the most general term of the way's form
-pub record Plain (words way : List ℕ) (depth : ℕ) : Type 0 where
-  pub short : depth ≤ 15
-  pub same : (j : ℕ) → j < depth → getD (fields words) j 0 ≡ getD way (j + 1) 0 % 65536
-  pub clean : Zeros (fields words) depth
-
--- So it is where the way is that of a row
-abbrev pub PlainOf : (words way : List ℕ) (depth : ℕ) → Type 0
-PlainOf words way depth = (ks row : List ℕ) → Kept way ks row → Low row → length row ≡ depth → Plain words way depth
-
--- The record is decided where the way is that of a row behind which nothing is wanted
-pub record TermDecided (words way : List ℕ) (depth : ℕ) (r : Bool) : Type 0 where
-  pub yes : r ≡ true → (ks row : List ℕ) → Kept way ks row → Low row → length row ≡ depth → wants row ≡ 0 → TermOf words way depth
-  pub no : r ≡ false → ¬ (TermOf words way depth)
-
--- The same for the rule at the place k: its number, the place of its number, and its record
-pub record RuleAt (ws way : List ℕ) (k depth : ℕ) : Type 0 where
-  pub low : number (view ws) k < ruleNumbers
-  pub found : view ws .place (number (view ws) k) ≡ k
-  pub size : view ws .size k ≡ depth
-  pub term : TermOf (take termWords (drop (termsAt + recordWords * k) ws)) way depth
-
-pub record RuleDecided (ws way : List ℕ) (k depth : ℕ) (r : Bool) : Type 0 where
-  pub yes : r ≡ true → (ks row : List ℕ) → Kept way ks row → Low row → length row ≡ depth → wants row ≡ 0 → RuleAt ws way k depth
-  pub no : r ≡ false → ¬ (RuleAt ws way k depth)
 
 -- What is asked of a rule that the link x leads to, with the word w
 pub record AskedRule (left : List ℕ) (x p low w : ℕ) : Type 0 where

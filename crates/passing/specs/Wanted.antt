@@ -23,17 +23,13 @@ use Rattle.tree.specs.Down.{Ended}
 use Rattle.tree.specs.Stops.{reach-end}
 use Rattle.book.specs.Memory.{View, taken, number, term, form, formOf, blankNumber, leaf, leaves, Recorded, Right}
 use Rattle.book.specs.Forms.{Side, symbol, variable, side, form-row}
+use Rattle.recorded.specs.Way.{wants}
 use Rattle.book.specs.Holding.{of-ends, to-ends, hanging, term-at, term-size}
 
 abbrev endAt : View → ℕ → End
 endAt v r = endOf (leaf v r)
 
 -- ---- what is found
-
--- the subterms still wanted behind a row, which is read backwards; a cell of a blank form has its arity in the 3 bits after its first
-abbrev pub wants : List ℕ → ℕ
-wants [] = 1
-wants (c ∷ p) = (c / 4096 % 8 + wants p) - 1
 
 -- a row without its last cell
 abbrev pub behind : List ℕ → List ℕ

@@ -1,17 +1,15 @@
 // The check: does lent memory hold a set of rules? One walk down from the root: node by node along first children, and back to the
 // last node of the way that has a next sibling. A node that is come to is taken from those left, so no walk is longer than the maps
 // have bits, and its time goes with the nodes and the rules held.
-pub mod rule;
-pub mod tail;
-
 ghost use mathlib.Core.Path.{_≡_};
 ghost use mathlib.Core.Bool.{false};
 ghost use Prim.Native.Nat.{_%_, _≤_, _<_};
 ghost use lib.ListN.{length, getD, take};
 ghost use Rattle.deciding.specs.Deciding.{Decides};
 ghost use Rattle.layout.specs.Layout.{mapWords, lastLink, bookWords};
-ghost use Rattle.passing.specs.Promises.{Checks};
-ghost use Rattle.passing.specs.State.{numbered, AtPlace, Sizes, Come, Pushed, Entered, Downed, RuleEntered, Ruled, Clear, Popped};
+ghost use Rattle.book.specs.Memory.{Passing};
+ghost use Rattle.recorded.specs.Way.{numbered};
+ghost use Rattle.passing.specs.State.{AtPlace, Sizes, Come, Pushed, Entered, Downed, RuleEntered, Ruled, Clear, Popped};
 use book::Book;
 
 // The mark of a blank, as wide as the cell of a word.
@@ -220,7 +218,7 @@ pub fn rules(
         }
         let w = got.word;
         let number = tree::cell_of(w);
-        if !rule::is_rule(m, way, x - layout::FIRST_RULE, number, depth) {
+        if !recorded::is_rule(m, way, x - layout::FIRST_RULE, number, depth) {
             return false;
         }
         x = tree::next_of(w) as usize;
@@ -270,7 +268,7 @@ fn back(w: u64, t: usize) -> Walker
 
 // Does memory of any length and with any contents pass?
 pub fn passes(m: &[u64]) -> bool
-    ensures { λ r. ⌜ Checks (now (m .entry)) r ⌝ }
+    ensures { λ r. ⌜ Decides (Passing (now (m .entry))) r ⌝ }
 {
     if m.len() != Book::WORDS {
         return false;

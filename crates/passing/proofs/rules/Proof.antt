@@ -11,7 +11,7 @@ use Rattle.passing.proofs.rules.Tie as tie
 use Rattle.passing.proofs.rules.Reads as reads
 use Rattle.passing.proofs.rules.Lts as lts
 use Rattle.passing.proofs.enter_rule.Reads as enter-rule-reads
-use Rattle.passing.proofs.rule.is_rule.Reads as is-rule-reads
+use Rattle.recorded.proofs.is_rule.Reads as is-rule-reads
 use Rattle.tree.proofs.cell_of.Reads as cell-of-reads
 use Rattle.tree.proofs.next_of.Reads as next-of-reads
 

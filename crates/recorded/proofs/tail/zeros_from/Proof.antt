@@ -4,9 +4,9 @@ use native.Mathlib.Omega.{arith}
 use borrow.Author.Needs.{needs}
 use Rattle.deciding.specs.Deciding.{decided, denied}
 use Rattle.layout.specs.Layout.{termWords}
-use Rattle.passing.proofs.Behind.{ClearTo, clear-first, clear-more, clear-end, clear-past, not-first, not-here, first-and-rest}
-use Rattle.passing.proofs.tail.zeros_from.Statement.{statement}
-use Rattle.passing.proofs.tail.zeros_from.Tie as tie
+use Rattle.recorded.proofs.Behind.{ClearTo, clear-first, clear-more, clear-end, clear-past, not-first, not-here, first-and-rest}
+use Rattle.recorded.proofs.tail.zeros_from.Statement.{statement}
+use Rattle.recorded.proofs.tail.zeros_from.Tie as tie
 
 abbrev Inv-loop : tie.InvT-loop
 Inv-loop words from i₀ i = ClearTo words from i

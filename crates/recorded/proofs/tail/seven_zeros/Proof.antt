@@ -1,9 +1,9 @@
 -- The words before the one that is tested are zero
 use borrow.Author.Needs.{needs}
 use Rattle.deciding.specs.Deciding.{denied}
-use Rattle.passing.proofs.Behind.{ClearTo, clear-more, not-here, second-clear, not-second, last-decides}
-use Rattle.passing.proofs.tail.seven_zeros.Statement.{statement}
-use Rattle.passing.proofs.tail.seven_zeros.Tie as tie
+use Rattle.recorded.proofs.Behind.{ClearTo, clear-more, not-here, second-clear, not-second, last-decides}
+use Rattle.recorded.proofs.tail.seven_zeros.Statement.{statement}
+use Rattle.recorded.proofs.tail.seven_zeros.Tie as tie
 
 two : (c : tie.Else1) → ClearTo (c .before .before .args .words .now) 4 2
 two c = second-clear (c .before .before .args .words .now) (c .if1 .left)

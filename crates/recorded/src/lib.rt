@@ -1,14 +1,18 @@
 // A rule's place and record, held against the way that the check has come down: is it right, with a term of the way's form?
+
+mod tail;
+
 ghost use mathlib.Core.Path.{_≡_};
 ghost use mathlib.Core.Bool.{true};
 ghost use Prim.Native.Nat.{ℕ, _+_, _%_, _≤_, _<_};
 ghost use lib.ListN.{length, getD};
 ghost use Rattle.deciding.specs.Deciding.{Decides};
 ghost use Rattle.layout.specs.Layout.{rulesLimit, rulesAt, termWords, bookWords};
-ghost use Rattle.passing.specs.Promises.{IsWhole};
+ghost use Rattle.term.specs.Reading.{readTerm};
+ghost use Rattle.term.specs.declared.reading.Reading.the-variants.{Whole};
 ghost use Rattle.book.specs.Memory.{blankNumber};
 ghost use Rattle.tree.specs.Words.{cellOf};
-ghost use Rattle.passing.specs.State.{TermOf, PlainOf, TermDecided, RuleDecided};
+ghost use Rattle.recorded.specs.Promises.{TermOf, PlainOf, TermDecided, RuleDecided};
 use term::reading;
 use term::reading::Reading;
 
@@ -17,7 +21,7 @@ const NUMBERS: u64 = layout::RULE_NUMBERS as u64;
 
 // Do the cells begin with one whole term of this size?
 fn is_whole(cells: &[u16], size: usize) -> bool
-    ensures { λ r. ⌜ IsWhole (now (cells .entry)) size r ⌝ }
+    ensures { λ r. ⌜ Decides (readTerm (now (cells .entry)) ≡ Whole size) r ⌝ }
 {
     match reading::read(cells, 0) {
         Reading::Whole(n) => n == size,
@@ -46,7 +50,7 @@ fn is_term(words: &[u64], way: &[u64], depth: usize) -> bool
     requires { ⌜ (length (now words) ≡ termWords) × (length (now way) ≡ 33) × (depth ≤ 32) ⌝ }
     ensures { λ r. ⌜ Decides (TermOf (now (words .entry)) (now (way .entry)) depth) r ⌝ }
 {
-    if !crate::tail::zeros_from(words, depth) {
+    if !tail::zeros_from(words, depth) {
         return false;
     }
     let cells = book::record::load_term(words, depth);

@@ -12,11 +12,10 @@ use Rattle.bits.specs.Laws.{length-unpack}
 use Rattle.term.specs.Reading.{readTerm}
 use Rattle.term.specs.declared.reading.Reading.the-variants.{Whole}
 use Rattle.book.specs.Memory.{blankNumber}
-use Rattle.passing.specs.Wanted.{wants}
-use Rattle.passing.specs.General.{general, Opened, general-whole}
-use Rattle.passing.specs.State.{blanks, numbered, wordOf, Kept, none, more, Low, TermOf, Plain}
-use Rattle.passing.proofs.Downing.{blanks-low}
-use Rattle.passing.proofs.Ruling.{numbered-low, last-part}
+use Rattle.recorded.specs.Way.{wants, blanks, numbered, wordOf, Kept, none, more, Low}
+use Rattle.recorded.specs.WayCells.{blanks-low, numbered-low, last-part}
+use Rattle.recorded.specs.Promises.{TermOf, Plain}
+use Rattle.recorded.specs.General.{general, Opened, general-whole}
 
 pub kept-opened : {way ks row : List ℕ} → Kept way ks row → Opened row
 kept-opened (none a b) = tt

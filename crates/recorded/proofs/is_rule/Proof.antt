@@ -3,15 +3,15 @@ use mathlib.Core.Path.{_∙_}
 use Prim.Native.Nat.{_+_, _*_, _-_}
 use native.Mathlib.Omega.{arith}
 use Rattle.layout.specs.Layout.{recordWords, termsAt}
-use Rattle.passing.proofs.Ruling.{rule-high, rule-lost, rule-long, rule-is}
+use Rattle.recorded.proofs.Ruling.{rule-high, rule-lost, rule-long, rule-is}
 use borrow.Author.Needs.{needs}
-use Rattle.passing.proofs.rule.is_rule.Statement.{statement}
-use Rattle.passing.proofs.rule.is_rule.Tie as tie
-use Rattle.passing.proofs.rule.is_rule.Reads as reads
-use Rattle.passing.proofs.rule.is_rule.Lts as lts
+use Rattle.recorded.proofs.is_rule.Statement.{statement}
+use Rattle.recorded.proofs.is_rule.Tie as tie
+use Rattle.recorded.proofs.is_rule.Reads as reads
+use Rattle.recorded.proofs.is_rule.Lts as lts
 use Rattle.bits.proofs.field.Reads as field-reads
 use Rattle.book.proofs.size_of.Reads as size-of-reads
-use Rattle.passing.proofs.rule.is_record.Reads as is-record-reads
+use Rattle.recorded.proofs.is_record.Reads as is-record-reads
 
 returns : tie.Need-returns
 returns c = let s = c .before .before .before in rule-high (s .args .m .now) (s .args .way .now) (s .args .r) (s .args .depth) (s .pre .0 .2) (s .args .number) (s .pre .1) (c .if1 .taken)

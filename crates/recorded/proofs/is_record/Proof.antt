@@ -1,8 +1,8 @@
 -- The most general term of the way's form is a term of it; any other is read cell by cell.
 use borrow.Author.Needs.{needs}
-use Rattle.passing.proofs.Moving.{plainly, by-cells}
-use Rattle.passing.proofs.rule.is_record.Statement.{statement}
-use Rattle.passing.proofs.rule.is_record.Tie as tie
+use Rattle.recorded.proofs.Moving.{plainly, by-cells}
+use Rattle.recorded.proofs.is_record.Statement.{statement}
+use Rattle.recorded.proofs.is_record.Tie as tie
 
 returns : tie.Need-returns
 returns c = let s = c .before .before .before .before in plainly (s .args .words .now) (s .args .way .now) (s .args .depth) (s .pre .0) (c .before .is-plain .ensures (c .if1 .taken))

@@ -3,9 +3,9 @@ use borrow.Author.Needs.{needs}
 use borrow.Author.Tests.{eqb-true}
 use Rattle.term.specs.Counting.{true≢false}
 use mathlib.Core.Path.{refl}
-use Rattle.passing.proofs.Moving.{plain-short, plain-long}
-use Rattle.passing.proofs.rule.is_plain.Statement.{statement}
-use Rattle.passing.proofs.rule.is_plain.Tie as tie
+use Rattle.recorded.proofs.Moving.{plain-short, plain-long}
+use Rattle.recorded.proofs.is_plain.Statement.{statement}
+use Rattle.recorded.proofs.is_plain.Tie as tie
 
 short : tie.Need-returns-4
 short c e ks row kept low deep =

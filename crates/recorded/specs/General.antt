@@ -8,12 +8,12 @@ use borrow.Author.Tests.{ltb-true, ltb-false, le-ltb, lt-leb}
 use lib.Dec.{ltb}
 use lib.ListN.{length}
 use Rattle.deciding.specs.Deciding.{pick}
-use Rattle.term.specs.Reading.{variable, takes, goOn, readFrom, readTerm}
+use Rattle.term.specs.Reading.{takes, goOn, readFrom, readTerm}
 use Rattle.term.specs.declared.reading.Taken.{Taken}
 use Rattle.term.specs.declared.reading.Taken.the-variants.{Wants}
 use Rattle.term.specs.declared.reading.Reading.the-variants.{Whole}
-use Rattle.passing.specs.Wanted.{wants}
-use Rattle.passing.specs.State.{blanks, numbered, Low}
+use Rattle.recorded.specs.WayCells.{blanks-low}
+use Rattle.recorded.specs.Way.{wants, blanks, numbered, Low}
 
 -- a row is read backwards, as the walk has it
 abbrev pub general : List ℕ → List ℕ
@@ -41,10 +41,6 @@ read-one : (left w known place c a k : ℕ) (rest : List ℕ) → takes known c 
 unfolding readFrom
 read-one left w known place c a k rest e = ap (λ (t : Taken). goOn t place (λ arity met. readFrom left (arity + w) met (suc place) rest)) e
 
-few : (r : List ℕ) → Low r → blanks r ≤ length r
-few [] h = omega arith
-few (c ∷ r) h = let a = few r (λ d i. h d (List·Memᴰ·tail i)) in let b = h c (List·Memᴰ·head refl) in omega arith
-
 -- the cells of a row are read, and then what comes behind them
 reads-row : (r rest : List ℕ) → Low r → Opened r → length r ≤ 15
     → readFrom 32 1 0 0 (reverse (general r) ++ rest) ≡ readFrom (32 - length r) (wants r) (blanks r) (length r) rest
@@ -56,7 +52,7 @@ reads-row (c ∷ r) rest h o l =
     ∙ one (32 - length r) (wants r) (31 - length r) (wants r - 1) (omega arith) (let q = o .0 in omega arith) (omega arith)
   where
     taken : takes (blanks r) (numbered c (blanks r)) ≡ Wants (c / 4096 % 8) (c / 32768 + blanks r)
-    taken = let q = few r (λ d i. h d (List·Memᴰ·tail i)) in takes-numbered c (blanks r) (h c (List·Memᴰ·head refl)) (omega arith)
+    taken = let q = blanks-low r (λ d i. h d (List·Memᴰ·tail i)) in takes-numbered c (blanks r) (h c (List·Memᴰ·head refl)) (omega arith)
 
     one : (left w left′ w′ : ℕ) → left ≡ suc left′ → w ≡ suc w′ → 32 - suc (length r) ≡ left′
         → readFrom left w (blanks r) (length r) (numbered c (blanks r) ∷ rest) ≡ readFrom (32 - suc (length r)) ((c / 4096 % 8 + w) - 1) (c / 32768 + blanks r) (suc (length r)) rest

@@ -1,15 +1,15 @@
 -- Zeros behind the term, a whole term, and the blanks of the way, test by test.
 use borrow.Author.Tests.{not-true, not-false}
-use Rattle.passing.proofs.Ruling.{not-clean, not-whole, is-term}
+use Rattle.recorded.proofs.Ruling.{not-clean, not-whole, is-term}
 use borrow.Author.Needs.{needs}
-use Rattle.passing.proofs.rule.is_term.Statement.{statement}
-use Rattle.passing.proofs.rule.is_term.Tie as tie
-use Rattle.passing.proofs.rule.is_term.Reads as reads
-use Rattle.passing.proofs.rule.is_term.Lts as lts
-use Rattle.passing.proofs.tail.zeros_from.Reads as zeros-from-reads
-use Rattle.passing.proofs.rule.is_whole.Reads as is-whole-reads
+use Rattle.recorded.proofs.is_term.Statement.{statement}
+use Rattle.recorded.proofs.is_term.Tie as tie
+use Rattle.recorded.proofs.is_term.Reads as reads
+use Rattle.recorded.proofs.is_term.Lts as lts
+use Rattle.recorded.proofs.tail.zeros_from.Reads as zeros-from-reads
+use Rattle.recorded.proofs.is_whole.Reads as is-whole-reads
 use Rattle.book.proofs.record.load_term.Reads as load-term-reads
-use Rattle.passing.proofs.rule.same_blanks.Reads as same-blanks-reads
+use Rattle.recorded.proofs.same_blanks.Reads as same-blanks-reads
 
 zeros-from-requires : tie.Need-zeros-from-requires
 zeros-from-requires c κs = search needs

@@ -2,11 +2,11 @@
 use Prim.Native.Nat.{_-_, _≤_}
 use native.Mathlib.Omega.{arith}
 use borrow.Author.Needs.{needs}
-use Rattle.passing.proofs.Ruling.{SameTo, same-on, same-not, same-all}
-use Rattle.passing.proofs.rule.same_blanks.Statement.{statement}
-use Rattle.passing.proofs.rule.same_blanks.Tie as tie
-use Rattle.passing.proofs.rule.same_blanks.Reads as reads
-use Rattle.passing.proofs.rule.same_blanks.Lts as lts
+use Rattle.recorded.proofs.Ruling.{SameTo, same-on, same-not, same-all}
+use Rattle.recorded.proofs.same_blanks.Statement.{statement}
+use Rattle.recorded.proofs.same_blanks.Tie as tie
+use Rattle.recorded.proofs.same_blanks.Reads as reads
+use Rattle.recorded.proofs.same_blanks.Lts as lts
 use Rattle.term.proofs.blank.Reads as blank-reads
 
 abbrev Inv-loop : tie.InvT-loop

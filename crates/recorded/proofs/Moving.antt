@@ -13,10 +13,10 @@ use Rattle.layout.specs.Layout.{termWords}
 use Rattle.bits.specs.Packed.{fields}
 use Rattle.bits.specs.Laws.{get-unpack, field-at}
 use Rattle.term.specs.Counting.{true≢false}
-use Rattle.passing.specs.State.{blanks, numbered, wordOf, Kept, none, more, Low, TermOf, Plain, PlainOf, TermDecided}
-use Rattle.passing.proofs.Downing.{blanks-low, kept-word}
-use Rattle.passing.proofs.Ruling.{numbered-low}
-use Rattle.passing.proofs.Plainly.{plain-term}
+use Rattle.recorded.proofs.Plainly.{plain-term}
+use Rattle.recorded.specs.Way.{blanks, numbered, wordOf, Kept, none, more, Low}
+use Rattle.recorded.specs.WayCells.{blanks-low, kept-word, numbered-low}
+use Rattle.recorded.specs.Promises.{TermOf, Plain, PlainOf, TermDecided}
 
 -- ---- the words behind the second
 

@@ -1,9 +1,9 @@
 -- The reading says whether there is a whole term, and how long it is.
 use borrow.Author.Needs.{needs}
 use mathlib.Core.Path.{sym, _∙_}
-use Rattle.passing.proofs.Checking.{other-size, no-term}
-use Rattle.passing.proofs.rule.is_whole.Statement.{statement}
-use Rattle.passing.proofs.rule.is_whole.Tie as tie
+use Rattle.recorded.proofs.Checking.{other-size, no-term}
+use Rattle.recorded.proofs.is_whole.Statement.{statement}
+use Rattle.recorded.proofs.is_whole.Tie as tie
 
 returns : tie.Need-returns
 returns c =

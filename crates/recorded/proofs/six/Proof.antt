@@ -1,8 +1,8 @@
 -- Six words or-ed together are zero only if each is.
 use borrow.Author.Needs.{needs}
-use Rattle.passing.proofs.Moving.{all-six}
-use Rattle.passing.proofs.rule.six.Statement.{statement}
-use Rattle.passing.proofs.rule.six.Tie as tie
+use Rattle.recorded.proofs.Moving.{all-six}
+use Rattle.recorded.proofs.six.Statement.{statement}
+use Rattle.recorded.proofs.six.Tie as tie
 
 returns : tie.Need-returns
 returns c = let s = c .before .before .before .before .before .before in all-six (s .args .words .now) (s .pre)
