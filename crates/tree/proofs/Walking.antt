@@ -14,7 +14,7 @@ use Rattle.tree.specs.Order.{ahead}
 use Rattle.tree.specs.Change.{Sorted}
 use Rattle.tree.specs.Words.{cellOf, parentOf, firstOf, nextOf, word, shape, place}
 use Rattle.tree.specs.Promises.{Sound, Before, Found, Absent, Descended, Further}
-use Rattle.tree.specs.Needs.{Ready, Next}
+use Rattle.tree.specs.Needs.{Ready, ChildWith, Next}
 use Rattle.tree.specs.Limits.{used-low, live-low, place-low}
 
 -- ---- along the children of p: behind b, and x comes next
@@ -126,39 +126,47 @@ next-none m form l i b h q = absurd (omega arith)
 pub take-next : (form : List ℕ) (i : ℕ) → i < length form → reverse (take (suc i) form) ≡ getD form i 0 ∷ reverse (take i form)
 take-next form i h = ap reverse (take-suc form i 0 h) ∙ reverse-append (take i form) (getD form i 0 ∷ [])
 
+module _ (ws : List ℕ) (p b c x : ℕ) (r : Ready ws p) (f : Found (shape ws) p b c) where
+  pub child-low : (p ≤ lastLink) × (b ≤ lastLink)
+  child-low = (live-low ws (r .size) p (r .live), place-low ws (r .size) p b (f .valid))
+
+  module _ (e : to (shape ws) (place p b) ≡ x) where
+    pub next-low : x ≤ lastLink
+    next-low = link-low ws (r .size) (r .tree) (place p b) (f .valid) x e
+
+    -- the child that would have the cell is the one that comes next
+    no-child : ((k : ℕ) → x ≡ suc k → ¬ (shape ws .cell k ≡ c)) → ChildWith (shape ws) p c 0
+    no-child h = record { none = λ q n u d g. h n (sym e ∙ found-child (r .tree) f n u d g) g; some = λ k q. absurd (omega arith) }
+
+    pub none-comes : x ≡ 0 → ChildWith (shape ws) p c 0
+    none-comes z = no-child (λ k q. absurd (omega arith))
+
+    pub other-comes : (v : ℕ) → v ≡ cellOf (word ws x) → ¬ (v ≡ c) → ChildWith (shape ws) p c 0
+    other-comes v h n = no-child (λ k q g. n (h ∙ ap (λ (y : ℕ). cellOf (word ws y)) q ∙ g))
+
+    pub it-comes : (v : ℕ) → ¬ (x ≡ 0) → v ≡ cellOf (word ws x) → v ≡ c → ChildWith (shape ws) p c x
+    it-comes v n h q = record {
+      none = λ z. absurd (n z);
+      some = λ k z.
+          let g = r .tree .goes (place p b) (f .valid) (e ∙ z) in
+          (g .used, g .under ∙ f .under, sym (ap (λ (y : ℕ). cellOf (word ws y)) z) ∙ sym h ∙ q);
+    }
+
 module _ (ws form : List ℕ) (s : Sound ws) (l i : ℕ) (d : Descending (shape ws) form l i) where
   pub descend-ready : Ready ws l
   descend-ready = record { size = s .size; tree = s .tree; live = up-live (d .at) }
 
-  module _ (hi : i < length form) (b c x : ℕ) (ec : c ≡ getD form i 0) (f : Found (shape ws) l b c) where
-    pub descend-low : (l ≤ lastLink) × (b ≤ lastLink)
-    descend-low = (live-low ws (s .size) l (up-live (d .at)), place-low ws (s .size) l b (f .valid))
+  module _ (hi : i < length form) (c : ℕ) (ec : c ≡ getD form i 0) where
+    pub descend-next : (b : ℕ) → Found (shape ws) l b c → Next (shape ws) form l i b
+    descend-next b f q = subst (λ (z : ℕ). Found (shape ws) l b z) ec f
 
-    pub descend-next : Next (shape ws) form l i b
-    descend-next q = subst (λ (z : ℕ). Found (shape ws) l b z) ec f
+    pub descend-stop : (x : ℕ) → x ≡ 0 → ChildWith (shape ws) l c x → Descended (shape ws) form l i
+    descend-stop x z w = record { within = d .within; at = d .at; absent = λ q. subst (Absent (shape ws) l) ec (w .none z) }
 
-    module _ (e : to (shape ws) (place l b) ≡ x) where
-      pub next-low : x ≤ lastLink
-      next-low = link-low ws (s .size) (s .tree) (place l b) (f .valid) x e
-
-      -- the child that would have the cell is the one that comes next
-      stop : ((k : ℕ) → x ≡ suc k → ¬ (shape ws .cell k ≡ c)) → Descended (shape ws) form l i
-      stop h = record { within = d .within; at = d .at; absent = λ q n u p r. h n (sym e ∙ found-child (s .tree) f n u p (r ∙ sym ec)) (r ∙ sym ec) }
-
-      pub descend-none : x ≡ 0 → Descended (shape ws) form l i
-      descend-none z = stop (λ k q. absurd (omega arith))
-
-      pub descend-other : (v : ℕ) → v ≡ cellOf (word ws x) → ¬ (v ≡ c) → Descended (shape ws) form l i
-      descend-other v h n = stop (λ k q r. n (h ∙ ap (λ (y : ℕ). cellOf (word ws y)) q ∙ r))
-
-      pub descend-on : (v : ℕ) → ¬ (x ≡ 0) → v ≡ cellOf (word ws x) → v ≡ c → Descending (shape ws) form x (i + 1)
-      descend-on v n h q = go x refl
-        where
-          go : (y : ℕ) → x ≡ y → Descending (shape ws) form x (i + 1)
-          go zero z = absurd (n z)
-          go (suc k) z =
-              let g = s .tree .goes (place l b) (f .valid) (e ∙ z) in
-              let cell : shape ws .cell k ≡ getD form i 0 = sym (ap (λ (y : ℕ). cellOf (word ws y)) z) ∙ sym h ∙ q ∙ ec in
-              let above = subst (λ (y : ℕ). Up (shape ws) y (reverse (take i form))) (sym (g .under ∙ f .under)) (d .at) in
-              let up = subst (λ (r : List ℕ). Up (shape ws) (suc k) r) (sym (take-next form i hi)) (down (g .used) cell above) in
-              rw (add-one i) (record { within = hi; at = subst (λ (y : ℕ). Up (shape ws) y (reverse (take (suc i) form))) (sym z) up })
+    pub descend-on : (x : ℕ) → ¬ (x ≡ 0) → ChildWith (shape ws) l c x → Descending (shape ws) form x (i + 1)
+    descend-on zero n w = absurd (n refl)
+    descend-on (suc k) n w =
+        let h = w .some k refl in
+        let above = subst (λ (y : ℕ). Up (shape ws) y (reverse (take i form))) (sym (h .1)) (d .at) in
+        let up = down (h .0) (h .2 ∙ ec) above in
+        rw (add-one i) (record { within = hi; at = subst (λ (r : List ℕ). Up (shape ws) (suc k) r) (sym (take-next form i hi)) up })

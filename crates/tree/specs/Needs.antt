@@ -33,6 +33,11 @@ pub record Room (ws : List ℕ) (p b n c : ℕ) : Type 0 where
 abbrev pub Next : Shape → List ℕ → ℕ → ℕ → ℕ → Type 0
 Next m form l i b = i < length form → Found m l b (getD form i 0)
 
+-- the child of p with the cell c, or that there is none
+pub record ChildWith (m : Shape) (p c r : ℕ) : Type 0 where
+  pub none : r ≡ 0 → Absent m p c
+  pub some : (k : ℕ) → r ≡ suc k → Used m k × (m .parent k ≡ p) × (m .cell k ≡ c)
+
 -- the cells of the form from i on are to grow under l, the first of them behind b, and there is room for them
 pub record Growing (ws : List ℕ) (l b : ℕ) (form : List ℕ) (i : ℕ) : Type 0 where
   pub size : length ws ≡ treeWords

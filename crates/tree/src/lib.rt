@@ -22,7 +22,7 @@ ghost use Rattle.tree.specs.Change.{Links, Grown, Trimmed};
 ghost use Rattle.tree.specs.Effects.{Puts};
 ghost use Rattle.tree.specs.Words.{cellOf, parentOf, firstOf, nextOf, Node, shape, place};
 ghost use Rattle.tree.specs.Promises.{Sound, Before, Found, Descended, Planted, Hangable, Hung};
-ghost use Rattle.tree.specs.Needs.{Ready, Room, Next, Growing, Leaf, Unlinked};
+ghost use Rattle.tree.specs.Needs.{ChildWith, Ready, Room, Next, Growing, Leaf, Unlinked};
 
 // The mark of a blank, as wide as the cell of a word.
 pub const MARK: u64 = term::MARK as u64;
@@ -142,6 +142,22 @@ pub struct Down {
     pub behind: usize,
 }
 
+// The child of p behind b, if it has the cell c; else 0.
+fn child_with(m: &[u64], p: usize, b: usize, c: u64) -> usize
+    requires { ⌜ Ready (now m) p ⌝ }
+    requires { ⌜ Found (shape (now m)) p b c ⌝ }
+    ensures { λ r. ⌜ ChildWith (shape (now (m .entry))) p c r ⌝ }
+{
+    let x = get_link(m, p, b);
+    if x == 0 {
+        return 0;
+    }
+    if cell_of(m[layout::LINKS_AT + x]) == c {
+        return x;
+    }
+    0
+}
+
 pub fn descend(m: &[u64], signs: &[u64], form: &[u16]) -> Down
     requires { ⌜ Sound (now m) ⌝ }
     requires { ⌜ length (now signs) ≡ signWords ⌝ }
@@ -153,15 +169,8 @@ pub fn descend(m: &[u64], signs: &[u64], form: &[u16]) -> Down
     while i < form.len() {
         let c = wide(form[i]);
         let b = find(m, l, signs::before(m, signs, l, c), c);
-        let x = get_link(m, l, b);
+        let x = child_with(m, l, b, c);
         if x == 0 {
-            return Down {
-                link: l,
-                depth: i,
-                behind: b,
-            };
-        }
-        if cell_of(m[layout::LINKS_AT + x]) != c {
             return Down {
                 link: l,
                 depth: i,
