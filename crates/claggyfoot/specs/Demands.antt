@@ -44,7 +44,7 @@ use Rattle.claggyfoot.specs.Calls.{Exactly, Call, Kept, CameTo, effectOf
 use Rattle.claggyfoot.specs.Refusals.{Adds-term, Names-rule, Held-already, StopNumber, Ends, six, eight, nine, not-held, goes-on-with, batch-ends}
 use Rattle.claggyfoot.specs.AtCommand.{memory, limits, answered, stops-exactly, refused-exactly, ten, gone-on, fault-exactly, add-exactly, nodes-taken, idle, idle-stays, idle-keeps}
 use Rattle.claggyfoot.specs.Naming.{Gave, Told, enter-1, enter-11, enter-12, enter-held, enter-new, name-of-1, name-of-13, name-of-held}
-use Rattle.claggyfoot.specs.Numbers.{EntersNumbers, StandsNumbers, ChecksNumber, passing as passing-number, failing}
+use Rattle.claggyfoot.specs.Numbers.{EntersNumbers, PartNumbers, ChecksNumber, passing as passing-number, failing}
 pub use Rattle.claggyfoot.specs.Numbers.{enters-numbers-once, stands-numbers-once, checks-number-once}
 
 -- ==== Demand 1: each refusal in the list comes exactly when its condition and the order call for it
@@ -72,7 +72,7 @@ refusal-1-passes (failing f e) = ((λ _. f), λ _. e)
 pub refusal-1-enter : {table name table′ : List ℕ} {refusal number : ℕ} (call : EntersNumbers table name refusal number table′) → Exactly (refusal ≡ 1) (¬ (PassesTable table)) (Gave call 1 0 table)
 refusal-1-enter = enter-1
 
-pub refusal-1-name-of : {table : List ℕ} {number refusal start size : ℕ} (call : StandsNumbers table number refusal start size) → Exactly (refusal ≡ 1) (¬ (PassesTable table)) (Told call 1 0 0)
+pub refusal-1-name-of : {table : List ℕ} {number refusal start size : ℕ} (call : PartNumbers table number refusal start size) → Exactly (refusal ≡ 1) (¬ (PassesTable table)) (Told call 1 0 0)
 refusal-1-name-of = name-of-1
 
 -- The kinds are rows of one table (crates/commands/specs/Kinds). For which kinds a row says what, in the words of the table of commands:
@@ -173,12 +173,12 @@ pub name-new : {table name table′ : List ℕ} {refusal number : ℕ} (call : E
 name-new = enter-new
 
 -- 13: name number not below the names held. Start 0 and length 0; the call only reads the table, as its type says.
-pub refusal-13 : {table : List ℕ} {number refusal start size : ℕ} (call : StandsNumbers table number refusal start size)
+pub refusal-13 : {table : List ℕ} {number refusal start size : ℕ} (call : PartNumbers table number refusal start size)
     → Exactly (refusal ≡ 13) ((names : List (List ℕ)) × (free : ℕ) × Holds table names free × (length names ≤ number)) (Told call 13 0 0)
 refusal-13 = name-of-13
 
 -- Not refused: where the name stands.
-pub name-stands : {table : List ℕ} {number refusal start size : ℕ} (call : StandsNumbers table number refusal start size) (names : List (List ℕ)) (free : ℕ)
+pub name-stands : {table : List ℕ} {number refusal start size : ℕ} (call : PartNumbers table number refusal start size) (names : List (List ℕ)) (free : ℕ)
     → Holds table names free → number < length names → Told call 0 (32 * number + 1) (length (getD names number []))
 name-stands = name-of-held
 

@@ -7,14 +7,14 @@ use lib.ListN.{length, getD}
 use Rattle.names.specs.Name.{IsName}
 use Rattle.names.specs.Table.{Holds, Passes, Missing, put}
 use Rattle.names.specs.Cases.{Given, failing, no-name, held, new, no-slot, given, leaves}
-use Rattle.names.specs.Calls.{entryRefusal, entryNumber, tableAfter, Stands, bad-table, no-number, at, placeRefusal, placeStart, placeSize}
+use Rattle.names.specs.Calls.{entryRefusal, entryNumber, tableAfter, PartOf, bad-table, no-number, at, partRefusal, partStart, partSize}
 use Rattle.names.specs.declared.Entry.{Entry}
 use Rattle.names.specs.declared.Entry.the-variants.{Held, New, NoTable, NoName, NoSlot}
-use Rattle.names.specs.declared.Place.{Place}
-use Rattle.names.specs.declared.Place.the-variants.{At, BadTable, NoNumber}
-use Rattle.names.specs.Once.{given-once, stands-once}
+use Rattle.names.specs.declared.Part.{Part}
+use Rattle.names.specs.declared.Part.the-variants.{At, BadTable, NoNumber}
+use Rattle.names.specs.Once.{given-once, part-once}
 use Rattle.claggyfoot.specs.Calls.{Exactly}
-use Rattle.claggyfoot.specs.Numbers.{EntersNumbers, StandsNumbers}
+use Rattle.claggyfoot.specs.Numbers.{EntersNumbers, PartNumbers}
 
 -- ---- entering a name
 
@@ -80,32 +80,32 @@ module _ {before name : List ℕ} {refusal number : ℕ} {after : List ℕ} (cal
 
 -- ---- the name of a number
 
-module _ {table : List ℕ} {number refusal start size : ℕ} (call : StandsNumbers table number refusal start size) where
+module _ {table : List ℕ} {number refusal start size : ℕ} (call : PartNumbers table number refusal start size) where
   pub record Told (r from bytes : ℕ) : Type 0 where
     pub refusal-is : refusal ≡ r
     pub start-is : start ≡ from
     pub size-is : size ≡ bytes
 
-  told : (p : Place) → Stands table number p → Told (placeRefusal p) (placeStart p) (placeSize p)
+  told : (p : Part) → PartOf table number p → Told (partRefusal p) (partStart p) (partSize p)
   told p s =
-      let e = stands-once (call .place) p (call .stands) s in
-      record { refusal-is = call .refusal-is ∙ ap placeRefusal e; start-is = call .start-is ∙ ap placeStart e; size-is = call .size-is ∙ ap placeSize e }
+      let e = part-once (call .part) p (call .stands) s in
+      record { refusal-is = call .refusal-is ∙ ap partRefusal e; start-is = call .start-is ∙ ap partStart e; size-is = call .size-is ∙ ap partSize e }
 
   pub name-of-1 : Exactly (refusal ≡ 1) (¬ (Passes table)) (Told 1 0 0)
-  name-of-1 = (((λ e. to (call .place) (call .stands) (sym (call .refusal-is) ∙ e)), (λ f. told BadTable (bad-table f) .refusal-is)), (λ f. told BadTable (bad-table f)))
+  name-of-1 = (((λ e. to (call .part) (call .stands) (sym (call .refusal-is) ∙ e)), (λ f. told BadTable (bad-table f) .refusal-is)), (λ f. told BadTable (bad-table f)))
     where
-      to : (p : Place) → Stands table number p → placeRefusal p ≡ 1 → ¬ (Passes table)
+      to : (p : Part) → PartOf table number p → partRefusal p ≡ 1 → ¬ (Passes table)
       to p (bad-table f) e = f
       to p (no-number h l) e = absurd (omega arith)
       to p (at h l s z) e = absurd (omega arith)
 
   pub name-of-13 : Exactly (refusal ≡ 13) ((names : List (List ℕ)) × (free : ℕ) × Holds table names free × (length names ≤ number)) (Told 13 0 0)
-  name-of-13 = (((λ e. to (call .place) (call .stands) (sym (call .refusal-is) ∙ e)), (λ x. all x .refusal-is)), all)
+  name-of-13 = (((λ e. to (call .part) (call .stands) (sym (call .refusal-is) ∙ e)), (λ x. all x .refusal-is)), all)
     where
       all : (names : List (List ℕ)) × (free : ℕ) × Holds table names free × (length names ≤ number) → Told 13 0 0
       all x = told NoNumber (no-number (x .2) (x .3))
 
-      to : (p : Place) → Stands table number p → placeRefusal p ≡ 13 → (names : List (List ℕ)) × (free : ℕ) × Holds table names free × (length names ≤ number)
+      to : (p : Part) → PartOf table number p → partRefusal p ≡ 13 → (names : List (List ℕ)) × (free : ℕ) × Holds table names free × (length names ≤ number)
       to p (bad-table f) e = absurd (omega arith)
       to p (no-number {names} {free} h l) e = (names, free, h, l)
       to p (at h l s z) e = absurd (omega arith)

@@ -2,10 +2,10 @@
 use mathlib.Core.Path.{_≡_, sym, ap, _∙_}
 use mathlib.Core.List.{List}
 use Prim.Native.Nat.{ℕ}
-use Rattle.names.specs.Calls.{Enters, entryRefusal, entryNumber, Stands, placeRefusal, placeStart, placeSize}
+use Rattle.names.specs.Calls.{Enters, entryRefusal, entryNumber, PartOf, partRefusal, partStart, partSize}
 use Rattle.names.specs.declared.Entry.{Entry}
-use Rattle.names.specs.declared.Place.{Place}
-use Rattle.names.specs.Once.{enters-once, stands-once}
+use Rattle.names.specs.declared.Part.{Part}
+use Rattle.names.specs.Once.{enters-once, part-once}
 use Rattle.book.specs.Memory.{Passing}
 
 -- The promise of `cf_name_enter`: the numbers of an answer that `enter` gives, and the table after it.
@@ -30,13 +30,13 @@ enters-numbers-once a b c d s u p q =
       after = e .1;
     }
 
--- The promise of `cf_name_of`: the numbers of the answer that `place_of` gives.
-pub record StandsNumbers (table : List ℕ) (number refusal start size : ℕ) : Type 0 where
-  pub place : Place
-  pub stands : Stands table number place
-  pub refusal-is : refusal ≡ placeRefusal place
-  pub start-is : start ≡ placeStart place
-  pub size-is : size ≡ placeSize place
+-- The promise of `cf_name_of`: the numbers of the answer that `part_of` gives.
+pub record PartNumbers (table : List ℕ) (number refusal start size : ℕ) : Type 0 where
+  pub part : Part
+  pub stands : PartOf table number part
+  pub refusal-is : refusal ≡ partRefusal part
+  pub start-is : start ≡ partStart part
+  pub size-is : size ≡ partSize part
 
 -- It allows one outcome.
 pub record SamePlace (a b c d e f : ℕ) : Type 0 where
@@ -44,13 +44,13 @@ pub record SamePlace (a b c d e f : ℕ) : Type 0 where
   pub start : c ≡ d
   pub size : e ≡ f
 
-pub stands-numbers-once : {t : List ℕ} {number : ℕ} (a b c d e f : ℕ) → StandsNumbers t number a c e → StandsNumbers t number b d f → SamePlace a b c d e f
+pub stands-numbers-once : {t : List ℕ} {number : ℕ} (a b c d e f : ℕ) → PartNumbers t number a c e → PartNumbers t number b d f → SamePlace a b c d e f
 stands-numbers-once a b c d e f p q =
-    let same = stands-once (p .place) (q .place) (p .stands) (q .stands) in
+    let same = part-once (p .part) (q .part) (p .stands) (q .stands) in
     record {
-      refusal = p .refusal-is ∙ ap placeRefusal same ∙ sym (q .refusal-is);
-      start = p .start-is ∙ ap placeStart same ∙ sym (q .start-is);
-      size = p .size-is ∙ ap placeSize same ∙ sym (q .size-is);
+      refusal = p .refusal-is ∙ ap partRefusal same ∙ sym (q .refusal-is);
+      start = p .start-is ∙ ap partStart same ∙ sym (q .start-is);
+      size = p .size-is ∙ ap partSize same ∙ sym (q .size-is);
     }
 
 -- The promise of `cf_book_passes`.

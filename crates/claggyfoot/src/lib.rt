@@ -3,7 +3,7 @@ ghost use mathlib.Core.Path.{_≡_};
 ghost use Rattle.layout.specs.Layout.{bookWords};
 ghost use Rattle.book.specs.Promises.{Empties};
 ghost use Rattle.batch.specs.Promises.{Runs};
-ghost use Rattle.claggyfoot.specs.Numbers.{EntersNumbers, StandsNumbers, ChecksNumber};
+ghost use Rattle.claggyfoot.specs.Numbers.{EntersNumbers, PartNumbers, ChecksNumber};
 use book::Book;
 
 // What `cf_name_enter` answers: 0 and the number of the name's slot, or the refusal and 0.
@@ -50,13 +50,13 @@ pub extern "C" fn cf_name_enter(table: &mut [u8], name: &[u8]) -> NameEntered
 // Where the name with a number stands.
 #[no_mangle]
 pub extern "C" fn cf_name_of(table: &[u8], number: u64) -> NamePlace
-    ensures { λ r. ⌜ StandsNumbers (now (table .entry)) number (r .refusal) (r .start) (r .length) ⌝ }
+    ensures { λ r. ⌜ PartNumbers (now (table .entry)) number (r .refusal) (r .start) (r .length) ⌝ }
 {
-    let place = names::place_of(table, number as usize);
+    let part = names::part_of(table, number as usize);
     NamePlace {
-        refusal: names::place_refusal(place),
-        start: wide(names::place_start(place)),
-        length: wide(names::place_size(place)),
+        refusal: names::part_refusal(part),
+        start: wide(names::part_start(part)),
+        length: wide(names::part_size(part)),
     }
 }
 

@@ -9,7 +9,7 @@ use lib.ListN.{length, getD, take, drop, replicate, take-append-drop, length-app
 use lib.Seq.{drop-drop, getD-drop, ext-getD}
 use Rattle.names.specs.Table.{Missing, slotOf, slotsOf, Holds, Passes}
 use Rattle.names.specs.Calls.{Counts}
-use Rattle.names.specs.Leaves.{AllZero, Used, Says, Finds, Met, Meets, hashOf, Begins, Sofar, Ends}
+use Rattle.names.specs.Leaves.{AllZero, Used, Says, Finds, Met, Meets, hashOf, UsedTo, Sofar, Ends}
 use Rattle.names.specs.Slots.{slot-once, slots-append, slots-length, slot-used, slot-byte, slot-first, slot-name, zeros-are, byte-free}
 use Rattle.names.specs.Entering.{more-length, more-before, more-last, more-named, more-apart, slot-holds}
 use Rattle.names.proofs.Using.{part-of, rest-is}
@@ -92,7 +92,7 @@ module _ (t : List ℕ) (s n : ℕ) (first : n ≡ getD t (32 * s) 0) (some : n 
           d .before k (omega arith) (own-says t k (getD (so .begins .names) k []) (held-slot k j) (so .begins .named k l .short) (nameHere t s n) e)
 
       -- One slot more.
-      begins-more : Missing (so .begins .names) (nameHere t s n) → Begins t (s + 1)
+      begins-more : Missing (so .begins .names) (nameHere t s n) → UsedTo t (s + 1)
       unfolding slotsOf
       begins-more m =
           let b = so .begins in

@@ -6,7 +6,7 @@ use native.Mathlib.Omega.{arith}
 use lib.ListN.{length, getD, take, drop, set, replicate, replicate-append-replicate}
 use lib.Seq.{paste, set-append-seam, take-append-add, take-length, drop-append-add}
 use Rattle.names.specs.Table.{Missing, slotOf, slotsOf, put, Holds}
-use Rattle.names.specs.Calls.{Place, Stands, bad-table, no-number, at, placeStart, placeSize}
+use Rattle.names.specs.Calls.{Part, PartOf, bad-table, no-number, at, partStart, partSize}
 use Rattle.names.specs.Leaves.{Finds}
 use Rattle.names.specs.Slots.{slots-length}
 use Rattle.names.specs.Entering.{slot-holds, put-is, drop-zeros}
@@ -55,11 +55,11 @@ module _ {t : List ℕ} {names : List (List ℕ)} {free : ℕ} (h : Holds t name
       ∙ ap (λ (i : ℕ). paste (set (slotsOf names ++ replicate (suc (length name + (31 - length name + 32 * (free - 1)))) 0) i (length name)) (i + 1) name (length name)) size
       ∙ written-zeros (slotsOf names) name (31 - length name + 32 * (free - 1)) ∙ put-last ∙ ap (λ (k : ℕ). put t k name) count
 
--- A place lies within the table.
-pub place-inside : (t : List ℕ) (number : ℕ) (p : Place) → Stands t number p → placeStart p + placeSize p ≤ length t
-place-inside t number p (bad-table f) = let e : 0 + 0 ≤ length t = omega arith in e
-place-inside t number p (no-number h l) = let e : 0 + 0 ≤ length t = omega arith in e
-place-inside t number p (at {start = start} {size = size} h l s z) =
+-- A part lies within the table.
+pub part-inside : (t : List ℕ) (number : ℕ) (p : Part) → PartOf t number p → partStart p + partSize p ≤ length t
+part-inside t number p (bad-table f) = let e : 0 + 0 ≤ length t = omega arith in e
+part-inside t number p (no-number h l) = let e : 0 + 0 ≤ length t = omega arith in e
+part-inside t number p (at {start = start} {size = size} h l s z) =
     let short = h .named number l .short in
     let e : start + size ≤ length t = omega (arith, length-is h) in
     e

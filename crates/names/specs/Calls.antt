@@ -11,8 +11,8 @@ pub use Rattle.names.specs.declared.Check.{Check}
 pub use Rattle.names.specs.declared.Check.the-variants.{Fails, Good}
 pub use Rattle.names.specs.declared.Entry.{Entry}
 pub use Rattle.names.specs.declared.Entry.the-variants.{Held, New, NoTable, NoName, NoSlot}
-pub use Rattle.names.specs.declared.Place.{Place}
-pub use Rattle.names.specs.declared.Place.the-variants.{At, BadTable, NoNumber}
+pub use Rattle.names.specs.declared.Part.{Part}
+pub use Rattle.names.specs.declared.Part.the-variants.{At, BadTable, NoNumber}
 
 -- The promise of `check`: the count of the names and of the free slots of a table that passes.
 pub record Counts (table : List ℕ) (held free : ℕ) : Type 0 where
@@ -60,36 +60,36 @@ pub data Enters (before name : List ℕ) (answer : Entry) (after : List ℕ) : T
   entered : {names : List (List ℕ)} {free : ℕ} → Holds before names free → answer ≡ entryIn names free name → after ≡ tableAfter before name answer → Enters before name answer after
   no-table : (Passes before → ⊥) → answer ≡ NoTable → after ≡ before → Enters before name answer after
 
--- The refusal, and where in the table the name stands, for each answer of `place_of`; refused, 0 bytes from byte 0.
-abbrev pub placeRefusal : Place → ℕ
-placeRefusal (At start size) = 0
-placeRefusal BadTable = 1
-placeRefusal NoNumber = 13
+-- The refusal, and where in the table the name stands, for each answer of `part_of`; refused, 0 bytes from byte 0.
+abbrev pub partRefusal : Part → ℕ
+partRefusal (At start size) = 0
+partRefusal BadTable = 1
+partRefusal NoNumber = 13
 
-abbrev pub placeStart : Place → ℕ
-placeStart (At start size) = start
-placeStart BadTable = 0
-placeStart NoNumber = 0
+abbrev pub partStart : Part → ℕ
+partStart (At start size) = start
+partStart BadTable = 0
+partStart NoNumber = 0
 
-abbrev pub placeSize : Place → ℕ
-placeSize (At start size) = size
-placeSize BadTable = 0
-placeSize NoNumber = 0
+abbrev pub partSize : Part → ℕ
+partSize (At start size) = size
+partSize BadTable = 0
+partSize NoNumber = 0
 
--- Exactly when `place_of` gives each answer: this is its promise.
-pub data Stands (table : List ℕ) (number : ℕ) : Place → Type 0 where
-  bad-table : (Passes table → ⊥) → Stands table number BadTable
-  no-number : {names : List (List ℕ)} {free : ℕ} → Holds table names free → length names ≤ number → Stands table number NoNumber
-  at : {names : List (List ℕ)} {free start size : ℕ} → Holds table names free → number < length names → start ≡ 32 * number + 1 → size ≡ length (getD names number []) → Stands table number (At start size)
+-- Exactly when `part_of` gives each answer: this is its promise.
+pub data PartOf (table : List ℕ) (number : ℕ) : Part → Type 0 where
+  bad-table : (Passes table → ⊥) → PartOf table number BadTable
+  no-number : {names : List (List ℕ)} {free : ℕ} → Holds table names free → length names ≤ number → PartOf table number NoNumber
+  at : {names : List (List ℕ)} {free start size : ℕ} → Holds table names free → number < length names → start ≡ 32 * number + 1 → size ≡ length (getD names number []) → PartOf table number (At start size)
 
 -- The promise of `name_of`: the part of the table where the name stands.
-pub record NameIs (table : List ℕ) (number : ℕ) (part : List ℕ) : Type 0 where
-  pub place : Place
-  pub stands : Stands table number place
-  pub part-is : part ≡ take (placeSize place) (drop (placeStart place) table)
+pub record NameIs (table : List ℕ) (number : ℕ) (name : List ℕ) : Type 0 where
+  pub part : Part
+  pub stands : PartOf table number part
+  pub name-is : name ≡ take (partSize part) (drop (partStart part) table)
 
 -- The promise of `name_refusal`.
 pub record NameRefused (table : List ℕ) (number refusal : ℕ) : Type 0 where
-  pub place : Place
-  pub stands : Stands table number place
-  pub refusal-is : refusal ≡ placeRefusal place
+  pub part : Part
+  pub stands : PartOf table number part
+  pub refusal-is : refusal ≡ partRefusal part

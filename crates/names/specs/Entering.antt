@@ -9,9 +9,9 @@ use lib.Seq.{take-at, drop-append-add, getD-append-seam}
 use Rattle.names.specs.Name.{IsName}
 use Rattle.names.specs.Table.{Named, Apart, Missing, slotOf, slotsOf, put, Holds, Passes}
 use Rattle.names.specs.Cases.{Given, failing, no-name, held, new, no-slot, given, leaves, enters-so}
-use Rattle.names.specs.Calls.{Enters, tableAfter, Entry, Held, New, NoTable, NoName, NoSlot, entryRefusal, entryNumber, Stands, at, Place, At, NameIs, placeStart, placeSize}
+use Rattle.names.specs.Calls.{Enters, tableAfter, Entry, Held, New, NoTable, NoName, NoSlot, entryRefusal, entryNumber, PartOf, at, Part, At, NameIs, partStart, partSize}
 use Rattle.names.specs.Slots.{slots-append, slots-length, slot-used, slot-name}
-use Rattle.names.specs.Once.{passes, enters-once, stands-once}
+use Rattle.names.specs.Once.{passes, enters-once, part-once}
 
 -- One name more at the end.
 module _ (names : List (List ℕ)) (name : List ℕ) where
@@ -134,15 +134,15 @@ module _ {t : List ℕ} {names : List (List ℕ)} {free : ℕ} (h : Holds t name
   pub slot-holds : take 32 (drop (32 * k) t) ≡ slotOf (getD names k [])
   slot-holds = ap (λ (x : List ℕ). take 32 (drop (32 * k) x)) (h .written) ∙ slot-used names (replicate (32 * free) 0) k (h .named) l
 
-  pub part-is : take (length (getD names k [])) (drop (32 * k + 1) t) ≡ getD names k []
-  part-is = slot-name t k (getD names k []) slot-holds (h .named k l .short)
+  pub name-is : take (length (getD names k [])) (drop (32 * k + 1) t) ≡ getD names k []
+  name-is = slot-name t k (getD names k []) slot-holds (h .named k l .short)
 
-  pub stands-at : Stands t k (At (32 * k + 1) (length (getD names k [])))
+  pub stands-at : PartOf t k (At (32 * k + 1) (length (getD names k [])))
   stands-at = at h l refl refl
 
   pub name-held : (part : List ℕ) → NameIs t k part → part ≡ getD names k []
   name-held part p =
-      p .part-is ∙ ap (λ (x : Place). take (placeSize x) (drop (placeStart x) t)) (stands-once (p .place) (At (32 * k + 1) (length (getD names k []))) (p .stands) stands-at) ∙ part-is
+      p .name-is ∙ ap (λ (x : Part). take (partSize x) (drop (partStart x) t)) (part-once (p .part) (At (32 * k + 1) (length (getD names k []))) (p .stands) stands-at) ∙ name-is
 
 -- The name of the number that `enter` gave is the name.
 pub entered-name : {t name : List ℕ} (a : Entry) (s part : List ℕ) → Enters t name a s → entryRefusal a ≡ 0 → NameIs s (entryNumber a) part → part ≡ name

@@ -46,7 +46,7 @@ pub record Meets (before : List ℕ) (h : ℕ) (after : List ℕ) : Type 0 where
   pub kept : (g : ℕ) → Met before g → Met after g
 
 -- The first slots of a table are used, and no two say the same name.
-pub record Begins (table : List ℕ) (held : ℕ) : Type 0 where
+pub record UsedTo (table : List ℕ) (held : ℕ) : Type 0 where
   pub names : List (List ℕ)
   pub count : length names ≡ held
   pub written : table ≡ slotsOf names ++ drop (32 * held) table
@@ -55,12 +55,12 @@ pub record Begins (table : List ℕ) (held : ℕ) : Type 0 where
 
 -- The same, with the hash of each name met.
 pub record Sofar (table seen : List ℕ) (held : ℕ) : Type 0 where
-  pub begins : Begins table held
+  pub begins : UsedTo table held
   pub marks : (k : ℕ) → k < held → Met seen (hashOf (getD (begins .names) k []))
 
 -- The used slots from the first on: they end where a length is 0, or something is wrong among them.
 pub record Ends (table : List ℕ) (slots held : ℕ) : Type 0 where
-  pub begins : Begins table held
+  pub begins : UsedTo table held
   pub within : held ≤ slots
   pub ends : getD table (32 * held) 0 ≡ 0
 

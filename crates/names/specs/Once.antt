@@ -8,7 +8,7 @@ use lib.Seq.{take-at, drop-at}
 use Rattle.names.specs.Name.{IsName}
 use Rattle.names.specs.Table.{Named, slotOf, slotsOf, Holds, Passes}
 use Rattle.names.specs.Cases.{Given, leaves, enters-so}
-use Rattle.names.specs.Calls.{entryIn, Enters, entered, no-table, tableAfter, Entry, Stands, bad-table, no-number, at, Place, NameIs, NameRefused, placeRefusal, placeStart, placeSize, Check, Fails, Good, Checks}
+use Rattle.names.specs.Calls.{entryIn, Enters, entered, no-table, tableAfter, Entry, PartOf, bad-table, no-number, at, Part, NameIs, NameRefused, partRefusal, partStart, partSize, Check, Fails, Good, Checks}
 use Rattle.names.specs.Slots.{named-rest, slot-length, slot-once, zero-at}
 
 -- A used slot's first byte is its name's length, which is not 0.
@@ -65,26 +65,26 @@ enters-once {t} {name} a b s u p q = let e = same-answer p q in (e, leaves p ∙
 pub given-once : {t name : List ℕ} (a b : Entry) → Given t name a → Given t name b → a ≡ b
 given-once {t} {name} a b p q = enters-once a b (tableAfter t name a) (tableAfter t name b) (enters-so a p refl) (enters-so b q refl) .0
 
-pub stands-once : {t : List ℕ} {number : ℕ} (p q : Place) → Stands t number p → Stands t number q → p ≡ q
-stands-once p q (bad-table f) (bad-table g) = refl
-stands-once p q (bad-table f) (no-number h l) = absurd (f (passes h))
-stands-once p q (bad-table f) (at h l s z) = absurd (f (passes h))
-stands-once p q (no-number h l) (bad-table f) = absurd (f (passes h))
-stands-once p q (no-number h l) (no-number i m) = refl
-stands-once p q (no-number h l) (at i m s z) = absurd (omega (arith, ap length (names-once h i)))
-stands-once p q (at h l s z) (bad-table f) = absurd (f (passes h))
-stands-once p q (at h l s z) (no-number i m) = absurd (omega (arith, ap length (names-once h i)))
-stands-once {t} {number} p q (at {start = start} {size = size} h l s z) (at {start = start′} {size = size′} i m u y) =
+pub part-once : {t : List ℕ} {number : ℕ} (p q : Part) → PartOf t number p → PartOf t number q → p ≡ q
+part-once p q (bad-table f) (bad-table g) = refl
+part-once p q (bad-table f) (no-number h l) = absurd (f (passes h))
+part-once p q (bad-table f) (at h l s z) = absurd (f (passes h))
+part-once p q (no-number h l) (bad-table f) = absurd (f (passes h))
+part-once p q (no-number h l) (no-number i m) = refl
+part-once p q (no-number h l) (at i m s z) = absurd (omega (arith, ap length (names-once h i)))
+part-once p q (at h l s z) (bad-table f) = absurd (f (passes h))
+part-once p q (at h l s z) (no-number i m) = absurd (omega (arith, ap length (names-once h i)))
+part-once {t} {number} p q (at {start = start} {size = size} h l s z) (at {start = start′} {size = size′} i m u y) =
     let starts : start ≡ start′ = s ∙ sym u in
     let sizes : size ≡ size′ = z ∙ ap (λ (names : List (List ℕ)). length (getD names number [])) (names-once h i) ∙ sym y in
     cc
 
 pub name-once : {t : List ℕ} {number : ℕ} (a b : List ℕ) → NameIs t number a → NameIs t number b → a ≡ b
 name-once {t} a b p q =
-    p .part-is ∙ ap (λ (x : Place). take (placeSize x) (drop (placeStart x) t)) (stands-once (p .place) (q .place) (p .stands) (q .stands)) ∙ sym (q .part-is)
+    p .name-is ∙ ap (λ (x : Part). take (partSize x) (drop (partStart x) t)) (part-once (p .part) (q .part) (p .stands) (q .stands)) ∙ sym (q .name-is)
 
 pub refused-once : {t : List ℕ} {number : ℕ} (a b : ℕ) → NameRefused t number a → NameRefused t number b → a ≡ b
-refused-once a b p q = p .refusal-is ∙ ap placeRefusal (stands-once (p .place) (q .place) (p .stands) (q .stands)) ∙ sym (q .refusal-is)
+refused-once a b p q = p .refusal-is ∙ ap partRefusal (part-once (p .part) (q .part) (p .stands) (q .stands)) ∙ sym (q .refusal-is)
 
 pub checks-once : (t : List ℕ) (a b : Check) → Checks t a → Checks t b → a ≡ b
 checks-once t Fails Fails p q = refl

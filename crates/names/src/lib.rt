@@ -7,7 +7,7 @@ pub mod name;
 mod slot;
 
 ghost use mathlib.Core.Path.{_≡_};
-ghost use Rattle.names.specs.Calls.{entryRefusal, entryNumber, placeRefusal, placeStart, placeSize, Enters, Counts, Stands, NameIs, NameRefused};
+ghost use Rattle.names.specs.Calls.{entryRefusal, entryNumber, partRefusal, partStart, partSize, Enters, Counts, PartOf, NameIs, NameRefused};
 use checking::check;
 use name::is_name;
 use slot::find;
@@ -35,7 +35,7 @@ pub enum Entry {
 }
 
 // Where the name with a number stands in the table, or why there is none.
-pub enum Place {
+pub enum Part {
     At { start: usize, size: usize },
     BadTable,
     NoNumber,
@@ -66,34 +66,34 @@ pub fn entry_number(entry: Entry) -> usize
     }
 }
 
-pub fn place_refusal(place: Place) -> u64
-    ensures { λ r. ⌜ r ≡ placeRefusal place ⌝ }
+pub fn part_refusal(part: Part) -> u64
+    ensures { λ r. ⌜ r ≡ partRefusal part ⌝ }
 {
-    match place {
-        Place::At { start: _, size: _ } => 0,
-        Place::BadTable => 1,
-        Place::NoNumber => 13,
+    match part {
+        Part::At { start: _, size: _ } => 0,
+        Part::BadTable => 1,
+        Part::NoNumber => 13,
     }
 }
 
 // Where the part of an answer begins, and its size.
-pub fn place_start(place: Place) -> usize
-    ensures { λ r. ⌜ r ≡ placeStart place ⌝ }
+pub fn part_start(part: Part) -> usize
+    ensures { λ r. ⌜ r ≡ partStart part ⌝ }
 {
-    match place {
-        Place::At { start, size: _ } => start,
-        Place::BadTable => 0,
-        Place::NoNumber => 0,
+    match part {
+        Part::At { start, size: _ } => start,
+        Part::BadTable => 0,
+        Part::NoNumber => 0,
     }
 }
 
-pub fn place_size(place: Place) -> usize
-    ensures { λ r. ⌜ r ≡ placeSize place ⌝ }
+pub fn part_size(part: Part) -> usize
+    ensures { λ r. ⌜ r ≡ partSize part ⌝ }
 {
-    match place {
-        Place::At { start: _, size } => size,
-        Place::BadTable => 0,
-        Place::NoNumber => 0,
+    match part {
+        Part::At { start: _, size } => size,
+        Part::BadTable => 0,
+        Part::NoNumber => 0,
     }
 }
 
@@ -127,17 +127,17 @@ fn enter_passing(table: &mut [u8], held: usize, free: usize, name: &[u8]) -> Ent
 }
 
 // Where in the table the name with a number stands.
-pub fn place_of(table: &[u8], number: usize) -> Place
-    ensures { λ r. ⌜ Stands (now (table .entry)) number r ⌝ }
+pub fn part_of(table: &[u8], number: usize) -> Part
+    ensures { λ r. ⌜ PartOf (now (table .entry)) number r ⌝ }
 {
     match check(table) {
-        Check::Fails => Place::BadTable,
+        Check::Fails => Part::BadTable,
         Check::Good { held, free: _ } => {
             if held <= number {
-                return Place::NoNumber;
+                return Part::NoNumber;
             }
             let at = SLOT * number;
-            Place::At {
+            Part::At {
                 start: at + 1,
                 size: wide(table[at]),
             }
@@ -149,13 +149,13 @@ pub fn place_of(table: &[u8], number: usize) -> Place
 pub fn name_of(table: &[u8], number: usize) -> &[u8]
     ensures { λ r. ⌜ NameIs (now (table .entry)) number (now r) ⌝ }
 {
-    match place_of(table, number) {
-        Place::At { start, size } => {
+    match part_of(table, number) {
+        Part::At { start, size } => {
             let end = start + size;
             &table[start..end]
         }
-        Place::BadTable => &table[0..0],
-        Place::NoNumber => &table[0..0],
+        Part::BadTable => &table[0..0],
+        Part::NoNumber => &table[0..0],
     }
 }
 
@@ -163,5 +163,5 @@ pub fn name_of(table: &[u8], number: usize) -> &[u8]
 pub fn name_refusal(table: &[u8], number: usize) -> u64
     ensures { λ r. ⌜ NameRefused (now (table .entry)) number r ⌝ }
 {
-    place_refusal(place_of(table, number))
+    part_refusal(part_of(table, number))
 }

@@ -12,7 +12,7 @@ spot question true skip place = at skip (drop place (blankForm question))
 spot question false skip place = failed
 
 -- A question of at most 32 cells, a place in it or at its end, and numbers that are far from wrapping.
-pub record Stands (question : List ℕ) (skip place : ℕ) : Type 0 where
+pub record IsSpot (question : List ℕ) (skip place : ℕ) : Type 0 where
   pub short : length question ≤ 32
   pub inside : place ≤ length question
   pub few : skip ≤ 65536

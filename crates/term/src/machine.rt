@@ -1,6 +1,6 @@
 // The matching machine on a question's cells: what it does where a rule's cell meets one of the question's.
 ghost use mathlib.Core.Path.{_≡_};
-ghost use Rattle.term.specs.Steps.{Stands, Within, Passed, Stepped};
+ghost use Rattle.term.specs.Steps.{IsSpot, Within, Passed, Stepped};
 ghost use mathlib.Core.Bool.{false};
 use crate::MARK;
 use crate::arity;
@@ -25,7 +25,7 @@ fn failed() -> Spot
 
 // The place past the next `count` subterms of the question from `place` on.
 pub fn past(question: &[u16], count: usize, place: usize) -> usize
-    requires { ⌜ Stands (now question) count place ⌝ }
+    requires { ⌜ IsSpot (now question) count place ⌝ }
     ensures { λ r. ⌜ Passed (now (question .entry)) count place r ⌝ }
 {
     let mut wanted = count;

@@ -1,4 +1,4 @@
--- The numbers are those of the answer that `place_of` ensures.
+-- The numbers are those of the answer that `part_of` ensures.
 use mathlib.Core.Path.{_∙_}
 use borrow.Author.Needs.{needs}
 use Rattle.claggyfoot.proofs.cf_name_of.Statement.{statement}

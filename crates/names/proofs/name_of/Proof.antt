@@ -1,22 +1,22 @@
--- The part is cut where `place_of` says; refused, it is empty.
+-- The part is cut where `part_of` says; refused, it is empty.
 use mathlib.Core.Path.{refl, subst}
 use Prim.Native.Nat.{_+_, _≤_}
 use native.Mathlib.Omega.{arith}
 use borrow.Author.Needs.{needs}
 use lib.ListN.{length}
 use denote.Ref.{now}
-use Rattle.names.specs.Calls.{Stands, At, BadTable, NoNumber}
+use Rattle.names.specs.Calls.{PartOf, At, BadTable, NoNumber}
 use Rattle.names.proofs.Using.{part-of}
-use Rattle.names.proofs.Writing.{place-inside}
+use Rattle.names.proofs.Writing.{part-inside}
 use Rattle.names.proofs.name_of.Statement.{statement}
 use Rattle.names.proofs.name_of.Tie as tie
 
 -- Where the name stands, once it does.
-placed : (c : tie.After-known-told) → Stands (now (c .before .before .before .before .before .args .table)) (c .before .before .before .before .before .args .number) (At (c .before .start .given .0 .0) (c .before .start .given .0 .1 .0))
-placed c = subst (Stands _ _) (c .before .start .given .1) (c .before .before .before .place-of .ensures)
+placed : (c : tie.After-known-told) → PartOf (now (c .before .before .before .before .before .args .table)) (c .before .before .before .before .before .args .number) (At (c .before .start .given .0 .0) (c .before .start .given .0 .1 .0))
+placed c = subst (PartOf _ _) (c .before .start .given .1) (c .before .before .before .part-of .ensures)
 
 inside : (c : tie.After-known-told) → c .before .start .given .0 .0 + c .before .start .given .0 .1 .0 ≤ length (now (c .before .before .before .before .before .args .table))
-inside c = place-inside _ _ _ (placed c)
+inside c = part-inside _ _ _ (placed c)
 
 add-end : tie.Need-add-end
 add-end c = omega (arith, inside c)
@@ -27,13 +27,13 @@ part-result-end c = inside c
 returns : tie.Need-returns
 returns c =
     let d = c .before in
-    record { place = At (d .before .start .given .0 .0) (d .before .start .given .0 .1 .0); stands = placed d; part-is = part-of _ (d .before .start .given .0 .0) (d .before .start .given .0 .1 .0) }
+    record { part = At (d .before .start .given .0 .0) (d .before .start .given .0 .1 .0); stands = placed d; name-is = part-of _ (d .before .start .given .0 .0) (d .before .start .given .0 .1 .0) }
 
 returns-2 : tie.Need-returns-2
-returns-2 c = record { place = BadTable; stands = subst (Stands _ _) (c .before .enum-told .given .1) (c .before .before .before .place-of .ensures); part-is = refl }
+returns-2 c = record { part = BadTable; stands = subst (PartOf _ _) (c .before .enum-told .given .1) (c .before .before .before .part-of .ensures); name-is = refl }
 
 returns-3 : tie.Need-returns-3
-returns-3 c = record { place = NoNumber; stands = subst (Stands _ _) (c .before .enum-told2 .given .1) (c .before .before .before .place-of .ensures); part-is = refl }
+returns-3 c = record { part = NoNumber; stands = subst (PartOf _ _) (c .before .enum-told2 .given .1) (c .before .before .before .part-of .ensures); name-is = refl }
 
 pub name-of-spec : {M : Type 1} → statement M
 name-of-spec =

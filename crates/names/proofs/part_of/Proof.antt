@@ -10,8 +10,8 @@ use Rattle.names.specs.Calls.{Checks, Counts, bad-table, no-number, at}
 use Rattle.names.specs.Slots.{slot-first}
 use Rattle.names.specs.Entering.{slot-holds}
 use Rattle.names.proofs.Running.{length-is}
-use Rattle.names.proofs.place_of.Statement.{statement}
-use Rattle.names.proofs.place_of.Tie as tie
+use Rattle.names.proofs.part_of.Statement.{statement}
+use Rattle.names.proofs.part_of.Tie as tie
 
 -- The names of the table, once it passes.
 counted : (c : tie.After-known-told) → Counts (now (c .before .before .before .before .before .args .table)) (c .before .held .given .0 .0) (c .before .held .given .0 .1 .0)
@@ -35,8 +35,8 @@ returns-3 c =
     let l : number < length (k .names) = omega (arith, k .count) in
     at (k .holds) l refl (c .wide .ensures .0 ∙ slot-first _ number (getD (k .names) number []) (slot-holds (k .holds) number l))
 
-pub place-of-spec : {M : Type 1} → statement M
-place-of-spec =
+pub part-of-spec : {M : Type 1} → statement M
+part-of-spec =
     tie.close
     (tie.spec
     (λ c κs. search needs)
