@@ -1,4 +1,3 @@
 -- What the proofs share.
 pub mod Copying
-pub mod Walking
 pub mod Readers

@@ -6,6 +6,5 @@ pub mod Leaving
 pub mod Marking
 pub mod Turns
 pub mod Searching
-pub mod Walking
 pub mod Lending
 pub mod Writing

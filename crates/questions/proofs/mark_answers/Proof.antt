@@ -55,7 +55,7 @@ use Rattle.questions.specs.declared.Point.{Point}
 use Rattle.questions.specs.Promises.{IsRoot, Searched}
 use Rattle.questions.proofs.Point as T
 use Rattle.questions.proofs.Point.Laws as T′
-use Rattle.questions.proofs.Walking.{Locals, joined, fresh, filled, slot, local, part, pass, frees-all}
+use Rattle.walks.specs.Walking.{Locals, joined, fresh, filled, slot, local, part, pass, frees-all}
 use Rattle.questions.proofs.Lending.{R, τ, list-lies, list-gone, point-fits, point-owned, flag-owned, shared-twice, point-out, point-put}
 use Rattle.questions.proofs.root as root
 use Rattle.questions.proofs.root.Symbol as root-def
@@ -308,7 +308,7 @@ module _ {M : Type 1} (𝓤 : URA M) (H : Heap 𝓤) (A : Atoms 𝓤) (W : Given
         forget ! 36 refl $ forget ! 34 refl $ forget ! 32 refl $ forget ! 30 refl $ forget ! 28 refl $ forget ! 26 refl $ forget ! 24 refl $ forget ! 22 refl $
         forget ! 19 refl $ forget ! 17 refl $ forget ! 15 refl $ forget ! 13 refl $ forget ! 11 refl $ forget ! 9 refl $ forget ! 7 refl $
         move ! (36 ∷ 37 ∷ 34 ∷ 35 ∷ 32 ∷ 33 ∷ 30 ∷ 31 ∷ 28 ∷ 29 ∷ 26 ∷ 27 ∷ 24 ∷ 25 ∷ 22 ∷ 23 ∷ 0 ∷ 21 ∷ 19 ∷ 20 ∷ 17 ∷ 18 ∷ 15 ∷ 16 ∷ 13 ∷ 14 ∷ 11 ∷ 12 ∷ 9 ∷ 10 ∷ 7 ∷ 8 ∷ []) $
-        frees-all ! refl $ move ! (3 ∷ 0 ∷ 5 ∷ 2 ∷ 4 ∷ 1 ∷ []) $ by ! (exits (fs .1 .1 .1 .1 .0) ek found)))))))))))))
+        frees-all ! [] refl $ move ! (3 ∷ 0 ∷ 5 ∷ 2 ∷ 4 ∷ 1 ∷ []) $ by ! (exits (fs .1 .1 .1 .1 .0) ek found)))))))))))))
 
     abbrev Had : List (Item 𝓤)
     Had = ‵ Om ∷ ‵ (flft κ₀ q₀) ∷ ‵ Oq ∷ ‵ (flft κ₁ q₁) ∷ ‵ Ok ∷ ‵ (flft κ₂ q₂) ∷ []

@@ -59,7 +59,7 @@ use Rattle.questions.specs.declared.Point.{Point}
 use Rattle.questions.specs.declared.turning.Points.{Points}
 use Rattle.questions.specs.Promises.{Steady, Went, Rooted, Searched}
 use Rattle.questions.proofs.Searching.{left, Loop, ends, stood, turned, starts-out}
-use Rattle.questions.proofs.Walking.{Locals, joined, fresh, filled, empty, holding, dying, slot, local, part, pass, frees-all}
+use Rattle.walks.specs.Walking.{Locals, joined, fresh, filled, empty, holding, dying, slot, local, part, pass, frees-all}
 use Rattle.questions.proofs.Lending.{R, Claim, lend-on, take-back, point-fits, point-owned, flag-owned, shared-twice, point-out, point-put}
 use Rattle.questions.proofs.Point as T
 use Rattle.questions.proofs.Point.Laws as T′
@@ -433,7 +433,7 @@ module _ {M : Type 1} (𝓤 : URA M) (H : Heap 𝓤) (A : Atoms 𝓤) (W : Given
           move ! (29 ∷ 30 ∷ 23 ∷ 31 ∷ 24 ∷ 32 ∷ 25 ∷ 33 ∷ 26 ∷ 34 ∷ 27 ∷ 35 ∷ 28 ∷ 36
           ∷ 9 ∷ 37 ∷ 10 ∷ 38 ∷ 11 ∷ 39 ∷ 12 ∷ 40 ∷ 13 ∷ 41 ∷ 14 ∷ 42 ∷ 15 ∷ 43
           ∷ 16 ∷ 44 ∷ 17 ∷ 45 ∷ 18 ∷ 46 ∷ 19 ∷ 47 ∷ 20 ∷ 48 ∷ 21 ∷ 49 ∷ 22 ∷ 50 ∷ []) $
-          frees-all ! refl $ by ! (exits ns zs ek el found)
+          frees-all ! [] refl $ by ! (exits ns zs ek el found)
 
     inv-at : (t : ℕ) (ns : List ℕ) (zs : List Point) (d : ℕ) → Facts t ns zs d → ent 𝓤 (⋆ 𝓤 H A (At ns zs d)) (Inv t)
     inv-at t ns zs d f =

@@ -38,7 +38,7 @@ use denote.Exit.{yes as ended-yes}
 use denote.Triple.Clauses.{ensured, lasts}
 use Rattle.commands.specs.Reader.{past}
 use Rattle.commands.specs.declared.reader.Reader.{Reader}
-use Rattle.commands.proofs.Walking.{slot, part, pass, frees-all, answered}
+use Rattle.walks.specs.Walking.{slot, part, pass, frees-all, answered}
 use Rattle.commands.proofs.Readers.{B, D, L, slice-of, Parts, reader-twice, reader-apart}
 use Rattle.commands.proofs.reader.Reader as T
 use Rattle.commands.proofs.reader.Reader.Laws as T′

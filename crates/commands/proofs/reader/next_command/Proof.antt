@@ -42,7 +42,7 @@ use Rattle.commands.specs.Reader.{Next, cellIn, pickPlace, past}
 use Rattle.commands.specs.Commands.{Command, commandBy, commandIn}
 use Rattle.commands.specs.declared.reader.Reader.{Reader}
 use Rattle.commands.specs.Laws.{first-cell}
-use Rattle.commands.proofs.Walking.{slot, local, part, pass, frees-all, answered}
+use Rattle.walks.specs.Walking.{slot, local, part, pass, frees-all, answered}
 use Rattle.commands.proofs.Readers.{B, D, L, slice-of, Parts, reader-twice, reader-apart}
 use Rattle.commands.proofs.reader.Reader as T
 use Rattle.commands.proofs.reader.Reader.Laws as T′

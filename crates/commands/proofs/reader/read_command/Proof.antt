@@ -38,7 +38,7 @@ use denote.Triple.Clauses.{ensured, lasts}
 use Rattle.commands.specs.Commands.{commandIn}
 use Rattle.commands.specs.declared.reader.Reader.{Reader}
 use Rattle.commands.specs.declared.reader.Command.{Command}
-use Rattle.commands.proofs.Walking.{slot, pass, frees-all, answered}
+use Rattle.walks.specs.Walking.{slot, pass, frees-all, answered}
 use Rattle.commands.proofs.Readers.{B}
 use Rattle.commands.proofs.reader.Reader as T
 use Rattle.commands.proofs.reader.Reader.Laws as T′

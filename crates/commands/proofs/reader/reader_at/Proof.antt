@@ -35,7 +35,7 @@ use denote.Triple.Table.{entered}
 use denote.Triple.Walked.{says, Stays, stay-none, stay-none-slice, walkOf, goes-none, goes-none-slice, Walks, ends-at, walked, walk-meets}
 use denote.Exit.{yes as ended-yes}
 use Rattle.commands.specs.declared.reader.Reader.{Reader}
-use Rattle.commands.proofs.Walking.{slot, pass, frees-all}
+use Rattle.walks.specs.Walking.{slot, pass, frees-all}
 use Rattle.commands.proofs.reader.Reader as T
 use Rattle.commands.proofs.reader.Reader.Laws as T′
 use Rattle.commands.proofs.reader.reader_at.Key.{name as #here}

@@ -18,12 +18,46 @@ use types.Run.{Reads, Finds, Opd, Opds, look, forget, stop, fld, from, load, and
 use denote.RattleType.{RattleType}
 use denote.Steps.{heard}
 
--- the entries of a context that are about locals: what each holds (from where the values end on, room), and that it dies
+-- ---- the entries of a context that are about locals
+
+abbrev pub Locals : Type 0
+Locals = List (Ty × ℕ)
+
+abbrev pub joined : Locals → Locals → Locals
+joined [] F = F
+joined (e ∷ E) F = e ∷ joined E F
+
 module _ {M : Type 1} {𝓤 : URA M} where
-  abbrev pub filled : List (Ty × ℕ) → List Val → List (Item 𝓤) → List (Item 𝓤)
-  filled (e ∷ E) (v ∷ vs) Γ = ‵ (fat fullShare (e .0) (e .1) 0 v) ∷ ‵ (fdies (e .0) (e .1)) ∷ filled E vs Γ
-  filled (e ∷ E) [] Γ = ‵ (froom (e .0) (e .1) 0) ∷ ‵ (fdies (e .0) (e .1)) ∷ filled E [] Γ
+  -- what each holds (from where the values end on, room), and that it dies: the first one first
+  abbrev pub kept : Locals → List Val → List (Item 𝓤) → List (Item 𝓤)
+  kept (e ∷ E) (v ∷ vs) Γ = ‵ (fat fullShare (e .0) (e .1) 0 v) ∷ ‵ (fdies (e .0) (e .1)) ∷ kept E vs Γ
+  kept (e ∷ E) [] Γ = ‵ (froom (e .0) (e .1) 0) ∷ ‵ (fdies (e .0) (e .1)) ∷ kept E [] Γ
+  kept [] vs Γ = Γ
+
+  -- room, and that it dies, as the walk meets it: the last one first
+  abbrev pub fresh : Locals → List (Item 𝓤) → List (Item 𝓤)
+  fresh [] Γ = Γ
+  fresh (e ∷ E) Γ = fresh E (‵ (froom (e .0) (e .1) 0) ∷ ‵ (fdies (e .0) (e .1)) ∷ Γ)
+
+  -- and with a value in each
+  abbrev pub filled : Locals → List Val → List (Item 𝓤) → List (Item 𝓤)
+  filled (e ∷ E) (v ∷ vs) Γ = filled E vs (‵ (fat fullShare (e .0) (e .1) 0 v) ∷ ‵ (fdies (e .0) (e .1)) ∷ Γ)
+  filled (e ∷ E) [] Γ = Γ
   filled [] vs Γ = Γ
+
+  -- the room of each alone, what each holds, and that each dies
+  abbrev pub empty : Locals → List (Item 𝓤) → List (Item 𝓤)
+  empty [] Γ = Γ
+  empty (e ∷ E) Γ = ‵ (froom (e .0) (e .1) 0) ∷ empty E Γ
+
+  abbrev pub holding : Locals → List Val → List (Item 𝓤) → List (Item 𝓤)
+  holding (e ∷ E) (v ∷ vs) Γ = ‵ (fat fullShare (e .0) (e .1) 0 v) ∷ holding E vs Γ
+  holding (e ∷ E) [] Γ = Γ
+  holding [] vs Γ = Γ
+
+  abbrev pub dying : Locals → List (Item 𝓤) → List (Item 𝓤)
+  dying [] Γ = Γ
+  dying (e ∷ E) Γ = ‵ (fdies (e .0) (e .1)) ∷ dying E Γ
 
 -- ---- steps
 
@@ -48,13 +82,13 @@ module _ {M : Type 1} {𝓤 : URA M} {H : Heap 𝓤} {A : Atoms 𝓤} {K : Type 
         → nth 𝓤 H A n Γ ≡ ‵ (fat q (spotOf 𝓤 H E i .0) (spotOf 𝓤 H E i .1) (spotOf 𝓤 H E i .2) v) → Opds K W Γ E xs vs → Opds K W Γ E (copy (place i []) ∷ xs) (v ∷ vs)
     pass t n e rest = and-then t (local t n e) rest
 
-  all-freed : K → (E : Env 𝓤 H) (vs : List Val) {Γ : List (Item 𝓤)} {g : Goal 𝓤 H} → Seq K W Γ g → Seq K W (filled E vs Γ) (frees E g)
+  all-freed : K → (E : Env 𝓤 H) (vs : List Val) {Γ : List (Item 𝓤)} {g : Goal 𝓤 H} → Seq K W Γ g → Seq K W (kept E vs Γ) (frees E g)
   all-freed t [] vs s = free0 t $ s
   all-freed t (e ∷ E) [] s = free1 t $ all-freed t E [] s
   all-freed t (e ∷ E) (v ∷ vs) s = forget t 0 refl $ free1 t $ all-freed t E vs s
 
   -- the locals are freed, from the first on, whatever they hold
-  pub frees-all : K → (vs : List Val) {E : Env 𝓤 H} {Γ Γ′ : List (Item 𝓤)} {g : Goal 𝓤 H} → Γ ≡ filled E vs Γ′ → Step K W Γ′ g Γ (frees E g)
+  pub frees-all : K → (vs : List Val) {E : Env 𝓤 H} {Γ Γ′ : List (Item 𝓤)} {g : Goal 𝓤 H} → Γ ≡ kept E vs Γ′ → Step K W Γ′ g Γ (frees E g)
   frees-all t vs {E} {Γ} {Γ′} {g} e = step (λ s. subst (λ (Δ : List (Item 𝓤)). Seq K W Δ (frees E g)) (sym e) (all-freed t E vs s))
 
   -- what a callee's promise says of its answer is heard: the answer is owned, and the tokens are back

@@ -1,0 +1,2 @@
+-- For proofs of functions that are walked by hand.
+pub mod Walking

@@ -1,0 +1,1 @@
+// What the walks by hand share: laws for proofs, no code.
