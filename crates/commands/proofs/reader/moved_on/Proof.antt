@@ -39,7 +39,7 @@ use denote.Triple.Clauses.{ensured, lasts}
 use Rattle.commands.specs.Reader.{past}
 use Rattle.commands.specs.declared.reader.Reader.{Reader}
 use Rattle.walks.specs.Walking.{slot, part, pass, frees-all, answered}
-use Rattle.commands.proofs.Readers.{B, D, L, slice-of, Parts, reader-twice, reader-apart}
+use Rattle.commands.proofs.Readers.{B, D, L, slice-of, Parts, reader-twice, reader-lent}
 use Rattle.commands.proofs.reader.Reader as T
 use Rattle.commands.proofs.reader.Reader.Laws as T′
 use Rattle.commands.proofs.reader.place_past as core
@@ -97,13 +97,6 @@ module _ {M : Type 1} (𝓤 : URA M) (H : Heap 𝓤) (A : Atoms 𝓤) (W : Given
   asked : ent 𝓤 (⋆ 𝓤 H A (tokens ∷ ‵ (Parts κ d) ∷ [])) (Callee .pre to)
   asked = qed W (tokens ∷ ‵ (Parts κ d) ∷ []) ∵ join ! $ frame ! $ done !
 
-  -- what the reader owns gives what the callee asks, and is kept
-  apart : d .at < 2 ^ 64 → ent 𝓤 Entry (sep 𝓤 (Callee .pre to) (sem 𝓤 H A Own))
-  apart low =
-      qed W (tokens ∷ ‵ (owns (B (κ, tt) ∷ []) (d, tt) (mach ∷ [], tt)) ∷ []) ∵
-      move ! (1 ∷ []) $ fsplit ! $ move ! (1 ∷ []) $ drop ! $ use1 W (‵ Own ⊛ ‵ Own) (reader-twice 𝓤 H A W κ d mach) $ split ! $
-      use1 W (‵ (Parts κ d)) (reader-apart 𝓤 H A W κ d mach low) $ move ! (2 ∷ 0 ∷ []) $ use2 W (raw (Callee .pre to)) asked $ frame ! $ done !
-
   abbrev Said : ℕ → SProp 𝓤
   Said r = ensured 𝓤 H A core.ended (core.clauses 𝓤 H A mem run) (κ, tt) (d .cells, (d .at, tt)) tt r
 
@@ -128,7 +121,7 @@ module _ {M : Type 1} (𝓤 : URA M) (H : Heap 𝓤) (A : Atoms 𝓤) (W : Given
         assigns ! (of-opd ! (part ! refl (look-in ! 8 (sub ! 0 refl (whole !))))) (slot !) (init ! 6 refl (tt, wt .1 .0)) $
         assigns ! (of-opd ! (part ! refl (look-in ! 8 (sub ! 0 refl (whole !))))) (slot !) (init ! 2 refl (tt, wt .1 .0)) $
         assigns ! (of-opd ! (part ! refl (look-in ! 8 (sub ! 1 refl (whole !))))) (slot !) (init ! 0 refl (tt, wt .1 .1 .0)) $
-        move ! (12 ∷ []) $ use1 W (raw (Callee .pre to) ⊛ ‵ Own) (apart (wt .1 .1 .0 .fits)) $ split ! $
+        move ! (12 ∷ []) $ use1 W (raw (Callee .pre to) ⊛ ‵ Own) (reader-lent 𝓤 H A W κ d mach q asked (wt .1 .1 .0 .fits)) $ split ! $
         calls-at ! fm Callee known to (pass ! 4 refl (pass ! 2 refl (no-more !))) (λ w.
         answered ! tt w usize tokens (λ n. n ≡ found) Said (id⊢ 𝓤 _) said (λ n e.
         -- the number's; the lifetime's; the reader's; then the locals from the last to the result's
