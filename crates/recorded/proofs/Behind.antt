@@ -3,11 +3,11 @@ use mathlib.Core.Path.{_≡_, sym, ap, _∙_}
 use mathlib.Core.List.{List}
 use mathlib.Core.Bool.{Bool}
 use Prim.Native.Nat.{ℕ, zero, suc, _+_, _-_, _*_, _/_, _%_, _^_, _≤_, _<_}
-use native.Mathlib.Nat.{mul-mod-left}
+use native.Mathlib.Nat.{mul-mod-left, mod-add-div, zero-add, mul-comm, mul-assoc, mul-div-cancel, mul-div-mul-right}
 use native.Mathlib.Decide.{decLt}
 use native.Mathlib.Omega.{arith}
 use borrow.Author.Tests.{eqb-true, eqb-false}
-use lib.Dec.{eqb}
+use lib.Dec.{eqb, lit<}
 use lib.ListN.{length, getD, List·getD-eq-default}
 use Rattle.deciding.specs.Deciding.{Decides}
 use Rattle.layout.specs.Layout.{termWords}
@@ -17,61 +17,54 @@ use Rattle.book.specs.Filling.{Zeros}
 
 -- ---- of a word w the last 4 - r fields
 
--- nothing is left of w when it is shifted by one, two or three fields
-shift-1 : (w : ℕ) → (w * 65536) % 18446744073709551616 ≡ 0 → w % 281474976710656 ≡ 0
-shift-1 w e =
-    let q : w ≡ (w * 65536) / 18446744073709551616 * 281474976710656 = omega arith in
-    ap (λ (x : ℕ). x % 281474976710656) q ∙ mul-mod-left ((w * 65536) / 18446744073709551616) 281474976710656
+-- a number of which nothing is left is so often the divisor
+multiple : (w b : ℕ) → w % b ≡ 0 → w ≡ w / b * b
+multiple w b e = sym (mod-add-div w b) ∙ ap (λ (r : ℕ). r + b * (w / b)) e ∙ zero-add (b * (w / b)) ∙ mul-comm b (w / b)
 
-unshift-1 : (w : ℕ) → w % 281474976710656 ≡ 0 → (w * 65536) % 18446744073709551616 ≡ 0
-unshift-1 w e =
-    let q : w * 65536 ≡ w / 281474976710656 * 18446744073709551616 = omega arith in
-    ap (λ (x : ℕ). x % 18446744073709551616) q ∙ mul-mod-left (w / 281474976710656) 18446744073709551616
+-- nothing is left of w when it is shifted by a exactly where its low part is zero
+shift : (w a b : ℕ) → 0 < a → (w * a) % (b * a) ≡ 0 → w % b ≡ 0
+shift w a b h e =
+    let q : w * a ≡ w / b * b * a = multiple (w * a) (b * a) e ∙ ap (λ (k : ℕ). k * (b * a)) (mul-div-mul-right w b h) ∙ sym (mul-assoc (w / b) b a) in
+    let d : w ≡ w / b * b = sym (mul-div-cancel w h) ∙ ap (λ (k : ℕ). k / a) q ∙ mul-div-cancel (w / b * b) h in
+    ap (λ (k : ℕ). k % b) d ∙ mul-mod-left (w / b) b
 
-shift-2 : (w : ℕ) → (w * 4294967296) % 18446744073709551616 ≡ 0 → w % 4294967296 ≡ 0
-shift-2 w e =
-    let q : w ≡ (w * 4294967296) / 18446744073709551616 * 4294967296 = omega arith in
-    ap (λ (x : ℕ). x % 4294967296) q ∙ mul-mod-left ((w * 4294967296) / 18446744073709551616) 4294967296
+unshift : (w a b : ℕ) → w % b ≡ 0 → (w * a) % (b * a) ≡ 0
+unshift w a b e =
+    let q : w * a ≡ w / b * (b * a) = ap (λ (k : ℕ). k * a) (multiple w b e) ∙ mul-assoc (w / b) b a in
+    ap (λ (k : ℕ). k % (b * a)) q ∙ mul-mod-left (w / b) (b * a)
 
-unshift-2 : (w : ℕ) → w % 4294967296 ≡ 0 → (w * 4294967296) % 18446744073709551616 ≡ 0
-unshift-2 w e =
-    let q : w * 4294967296 ≡ w / 4294967296 * 18446744073709551616 = omega arith in
-    ap (λ (x : ℕ). x % 18446744073709551616) q ∙ mul-mod-left (w / 4294967296) 18446744073709551616
+-- a low part of b * 65,536 is zero exactly where that of b and the field above it are
+both-low : (w b : ℕ) → w % b ≡ 0 → w / b % 65536 ≡ 0 → w % (b * 65536) ≡ 0
+both-low w b e f =
+    let q : w ≡ w / b / 65536 * (b * 65536) =
+    multiple w b e ∙ ap (λ (k : ℕ). k * b) (multiple (w / b) 65536 f) ∙ mul-assoc (w / b / 65536) 65536 b
+    ∙ ap (λ (k : ℕ). w / b / 65536 * k) (mul-comm 65536 b) in
+    ap (λ (k : ℕ). k % (b * 65536)) q ∙ mul-mod-left (w / b / 65536) (b * 65536)
 
-shift-3 : (w : ℕ) → (w * 281474976710656) % 18446744073709551616 ≡ 0 → w % 65536 ≡ 0
-shift-3 w e =
-    let q : w ≡ (w * 281474976710656) / 18446744073709551616 * 65536 = omega arith in
-    ap (λ (x : ℕ). x % 65536) q ∙ mul-mod-left ((w * 281474976710656) / 18446744073709551616) 65536
-
-unshift-3 : (w : ℕ) → w % 65536 ≡ 0 → (w * 281474976710656) % 18446744073709551616 ≡ 0
-unshift-3 w e =
-    let q : w * 281474976710656 ≡ w / 65536 * 18446744073709551616 = omega arith in
-    ap (λ (x : ℕ). x % 18446744073709551616) q ∙ mul-mod-left (w / 65536) 18446744073709551616
-
--- two, three and four fields that are zero
-low-2 : (w : ℕ) → w % 65536 ≡ 0 → w / 65536 % 65536 ≡ 0 → w % 4294967296 ≡ 0
-low-2 w a b = let q : w ≡ w / 65536 / 65536 * 4294967296 = omega arith in ap (λ (x : ℕ). x % 4294967296) q ∙ mul-mod-left (w / 65536 / 65536) 4294967296
-
-low-3 : (w : ℕ) → w % 4294967296 ≡ 0 → w / 4294967296 % 65536 ≡ 0 → w % 281474976710656 ≡ 0
-low-3 w a b = let q : w ≡ w / 4294967296 / 65536 * 281474976710656 = omega arith in ap (λ (x : ℕ). x % 281474976710656) q ∙ mul-mod-left (w / 4294967296 / 65536) 281474976710656
+low-both : (w b : ℕ) → 0 < b → w % (b * 65536) ≡ 0 → (w % b ≡ 0) × (w / b % 65536 ≡ 0)
+low-both w b h e =
+    let n : ℕ = w / (b * 65536) in
+    let q : w ≡ n * 65536 * b = multiple w (b * 65536) e ∙ ap (λ (k : ℕ). n * k) (mul-comm b 65536) ∙ sym (mul-assoc n 65536 b) in
+    let d : w / b ≡ n * 65536 = ap (λ (k : ℕ). k / b) q ∙ mul-div-cancel (n * 65536) h in
+    (ap (λ (k : ℕ). k % b) q ∙ mul-mod-left (n * 65536) b, ap (λ (k : ℕ). k % 65536) d ∙ mul-mod-left n 65536)
 
 low-4 : (w : ℕ) → w < 18446744073709551616 → w % 281474976710656 ≡ 0 → w / 281474976710656 % 65536 ≡ 0 → w ≡ 0
 low-4 w l a b = omega arith
 
--- and the fields of a word of which so many low bits are zero
+shift-1 : (w : ℕ) → (w * 65536) % 18446744073709551616 ≡ 0 → w % 281474976710656 ≡ 0
+shift-1 w e = shift w 65536 281474976710656 (lit< tt) e
+
+shift-2 : (w : ℕ) → (w * 4294967296) % 18446744073709551616 ≡ 0 → w % 4294967296 ≡ 0
+shift-2 w e = shift w 4294967296 4294967296 (lit< tt) e
+
+low-2 : (w : ℕ) → w % 65536 ≡ 0 → w / 65536 % 65536 ≡ 0 → w % 4294967296 ≡ 0
+low-2 w a b = both-low w 65536 a b
+
 of-2 : (w : ℕ) → w % 4294967296 ≡ 0 → (w % 65536 ≡ 0) × (w / 65536 % 65536 ≡ 0)
-of-2 w e =
-    let q : w ≡ (w / 4294967296 * 65536) * 65536 = omega arith in
-    let z : w % 65536 ≡ 0 = ap (λ (x : ℕ). x % 65536) q ∙ mul-mod-left (w / 4294967296 * 65536) 65536 in
-    let p : w / 65536 ≡ w / 4294967296 * 65536 = omega arith in
-    (z, ap (λ (x : ℕ). x % 65536) p ∙ mul-mod-left (w / 4294967296) 65536)
+of-2 w e = low-both w 65536 (lit< tt) e
 
 of-3 : (w : ℕ) → w % 281474976710656 ≡ 0 → (w % 4294967296 ≡ 0) × (w / 4294967296 % 65536 ≡ 0)
-of-3 w e =
-    let q : w ≡ (w / 281474976710656 * 65536) * 4294967296 = omega arith in
-    let z : w % 4294967296 ≡ 0 = ap (λ (x : ℕ). x % 4294967296) q ∙ mul-mod-left (w / 281474976710656 * 65536) 4294967296 in
-    let p : w / 4294967296 ≡ w / 281474976710656 * 65536 = omega arith in
-    (z, ap (λ (x : ℕ). x % 65536) p ∙ mul-mod-left (w / 281474976710656) 65536)
+of-3 w e = low-both w 4294967296 (lit< tt) e
 
 whole : (w : ℕ) → w % 65536 ≡ 0 → w / 2 ^ (0 * 16) % 2 ^ 16 ≡ 0
 whole w e = let d : w / 2 ^ (0 * 16) ≡ w = omega arith in ap (λ (x : ℕ). x % 2 ^ 16) d ∙ e
@@ -89,17 +82,17 @@ tail-clear w (suc zero) (suc (suc (suc t))) h e = absurd (omega arith)
 tail-clear w (suc (suc zero)) zero h e = whole w (of-2 w (shift-2 w e) .0)
 tail-clear w (suc (suc zero)) (suc zero) h e = of-2 w (shift-2 w e) .1
 tail-clear w (suc (suc zero)) (suc (suc t)) h e = absurd (omega arith)
-tail-clear w (suc (suc (suc zero))) zero h e = whole w (shift-3 w e)
+tail-clear w (suc (suc (suc zero))) zero h e = whole w (shift w 281474976710656 65536 (lit< tt) e)
 tail-clear w (suc (suc (suc zero))) (suc t) h e = absurd (omega arith)
 tail-clear w (suc (suc (suc (suc r)))) t h e = absurd (omega arith)
 
 tail-left : (w r : ℕ) → r < 4 → w < 2 ^ 64 → ((t : ℕ) → r + t < 4 → w / 2 ^ (t * 16) % 2 ^ 16 ≡ 0) → (w * 2 ^ (r * 16)) % 2 ^ 64 ≡ 0
 tail-left w zero h b f =
-    let q = low-4 w b (low-3 w (low-2 w (omega (arith, f 0 (omega arith))) (f 1 (omega arith))) (f 2 (omega arith))) (f 3 (omega arith)) in
+    let q = low-4 w b (both-low w 4294967296 (low-2 w (omega (arith, f 0 (omega arith))) (f 1 (omega arith))) (f 2 (omega arith))) (f 3 (omega arith)) in
     ap (λ (x : ℕ). (x * 2 ^ (0 * 16)) % 2 ^ 64) q
-tail-left w (suc zero) h b f = unshift-1 w (low-3 w (low-2 w (omega (arith, f 0 (omega arith))) (f 1 (omega arith))) (f 2 (omega arith)))
-tail-left w (suc (suc zero)) h b f = unshift-2 w (low-2 w (omega (arith, f 0 (omega arith))) (f 1 (omega arith)))
-tail-left w (suc (suc (suc zero))) h b f = unshift-3 w (omega (arith, f 0 (omega arith)))
+tail-left w (suc zero) h b f = unshift w 65536 281474976710656 (both-low w 4294967296 (low-2 w (omega (arith, f 0 (omega arith))) (f 1 (omega arith))) (f 2 (omega arith)))
+tail-left w (suc (suc zero)) h b f = unshift w 4294967296 4294967296 (low-2 w (omega (arith, f 0 (omega arith))) (f 1 (omega arith)))
+tail-left w (suc (suc (suc zero))) h b f = unshift w 281474976710656 65536 (omega (arith, f 0 (omega arith)))
 tail-left w (suc (suc (suc (suc r)))) h b f = absurd (omega arith)
 
 pub word-clear : (ws : List ℕ) (q r : ℕ) → (getD ws q 0 * 2 ^ (r * 16)) % 2 ^ 64 ≡ 0 → (k : ℕ) → q * 4 + r ≤ k → k < q * 4 + 4 → getD (fields ws) k 0 ≡ 0
