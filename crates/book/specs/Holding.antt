@@ -149,7 +149,8 @@ module _ (v : View) (small : (n : ℕ) → Used (v .tree) n → n < lastLink) (r
           let q = Memᴰ·of-map (λ (x : Leaf). x .form) (leaves v) i in
           let a = leaf-taken (q .1) in
           Memᴰ·cast (sym (ap (λ (x : Leaf). x .form) (a .2) ∙ q .2))
-          (Memᴰ·map formOf (terms-standing (rulesOf v) (term v (a .0)) .1 (record { number = number v (a .0); low = right .records (a .0) (a .1) .low; its = ruleAt v (a .0); is = at-holds (a .0) (a .1); term-is = refl })))
+          (Memᴰ·map formOf (terms-standing (rulesOf v) (term v (a .0)) .1
+          (record { number = number v (a .0); low = right .records (a .0) (a .1) .low; its = ruleAt v (a .0); is = at-holds (a .0) (a .1); term-is = refl })))
 
       of : List·Memᴰ f (map formOf (terms (rulesOf v))) → List·Memᴰ f (bases (leaves v))
       of i =

@@ -16,7 +16,7 @@ use Rattle.tree.specs.Words.{cellOf}
 use Rattle.tree.specs.Tally.{marked}
 use Rattle.tree.specs.Limits.{rule-bit, nodes-held, rules-held, used-low}
 use Rattle.tree.specs.Shape.{Used}
-use Rattle.book.specs.Memory.{view, taken, number, heldAt, Passing, rulesIn}
+use Rattle.book.specs.Memory.{view, taken, number, Passing, rulesIn}
 use Rattle.book.specs.Holding.{rules-tally, nodes-tally, count-tally}
 use Rattle.book.specs.Promises.{placeOf, Counts}
 
@@ -76,7 +76,8 @@ module _ (ws : List ℕ) (k : ℕ) where
     pub not-taken : (b : Bool) → b ≡ eqb (getD (bits (take ruleMapWords (drop ruleMapAt ws))) r 0) 1 → b ≡ false → rulesLimit ≡ placeOf (view ws) k
     not-taken b f q = sym (picks true false (eqb (number (view ws) (view ws .place k)) k) low (is-taken b f ∙ q) refl)
 
-    pub other-number : (b : Bool) → b ≡ eqb (getD (bits (take ruleMapWords (drop ruleMapAt ws))) r 0) 1 → b ≡ true → (c : ℕ) → c ≡ cellOf (getD ws (rulesAt + r) 0) → ¬ (c ≡ k) → rulesLimit ≡ placeOf (view ws) k
+    pub other-number : (b : Bool) → b ≡ eqb (getD (bits (take ruleMapWords (drop ruleMapAt ws))) r 0) 1 → b ≡ true
+        → (c : ℕ) → c ≡ cellOf (getD ws (rulesAt + r) 0) → ¬ (c ≡ k) → rulesLimit ≡ placeOf (view ws) k
     other-number b f q c g n = sym (picks true true false low (is-taken b f ∙ q) (ne-eqb (number (view ws) (view ws .place k)) k (λ d. n (sym (is-number c g) ∙ d))))
 
     pub found : (b : Bool) → b ≡ eqb (getD (bits (take ruleMapWords (drop ruleMapAt ws))) r 0) 1 → b ≡ true → (c : ℕ) → c ≡ cellOf (getD ws (rulesAt + r) 0) → c ≡ k → r ≡ placeOf (view ws) k

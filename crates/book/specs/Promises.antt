@@ -1,14 +1,14 @@
 -- What the book's functions promise.
 use mathlib.Core.Path.{_≡_}
 use mathlib.Core.List.{List, _++_}
-use mathlib.Core.Bool.{Bool, true, false}
+use mathlib.Core.Bool.{Bool}
 use Prim.Native.Nat.{ℕ, _-_}
 use lib.ListN.{length, replicate}
 use Rattle.deciding.specs.Deciding.{pick}
 use Rattle.layout.specs.Layout.{rulesLimit, bookWords}
 use Rattle.term.specs.Reading.{readTerm}
 use Rattle.term.specs.declared.reading.Reading.the-variants.{Whole}
-use Rattle.book.specs.Rules.{Held, nothing, rule, isHeld, ruleCount, nodesOf, after}
+use Rattle.book.specs.Rules.{Held, nothing, rule, isHeld, ruleCount, nodesOf}
 use Rattle.book.specs.Memory.{View, heldAt, rulesIn}
 
 -- A term, and nothing after it.
