@@ -10,6 +10,7 @@ ghost use Prim.Native.Nat.{_-_, _<_, _≤_};
 ghost use mathlib.Core.List.{[]};
 ghost use lib.ListN.{length};
 ghost use Rattle.layout.specs.Layout.{ruleNumbers, lastLink, bookWords};
+ghost use Rattle.book.specs.Rules.{Rules};
 ghost use Rattle.book.specs.Memory.{Passing};
 ghost use Rattle.book.specs.Promises.{IsTerm};
 ghost use Rattle.bits.specs.Numbers.{NumberSet, has};
@@ -434,11 +435,12 @@ pub fn count(marks: &[u64]) -> usize
     n
 }
 
-// Writes the marked numbers, ascending, from the front of `out`, and answers how many they are.
+// Writes the marked numbers, ascending, from the front of `out`, and answers how many they are. Ascending is the order of a list,
+// whatever the rules.
 pub fn list(marks: &[u64], out: &mut [u16]) -> usize
     requires { ⌜ NumberSet (now marks) ⌝ }
     requires { ⌜ length (numbers (has (now marks)) ruleNumbers) ≤ length (now out) ⌝ }
-    ensures { λ n. ⌜ Lists (now (marks .entry)) (now (out .entry)) (now (out .exit)) n ⌝ }
+    ensures { λ n. ⌜ ((rules : Rules) → Lists rules (now (marks .entry)) (now (out .entry)) (now (out .exit)) n) ⌝ }
 {
     let mut n: usize = 0;
     let mut s = bits::numbers::first(marks, 0);
