@@ -2,17 +2,17 @@
 -- their nodes; two allowed outcomes of a call are the same; and what a call answers depends on the set of rules alone.
 use mathlib.Core.Path.{_≡_, refl, sym, ap, _∙_, subst, fun-ext}
 use mathlib.Core.List.{List, [], map, reverse, append-nil, List·Memᴰ}
-use mathlib.Core.Bool.{Bool, true, false}
+use mathlib.Core.Bool.{Bool, false}
 use Prim.Native.Nat.{ℕ, zero, suc, _+_, _≤_, _<_}
 use native.Mathlib.Omega.{arith}
 use native.Mathlib.Decide.{ℕ-discrete}
 use lib.Dec.{eqb, ltb}
 use lib.ListN.{length, take, replicate, length-take, length-replicate, getD-replicate}
 use lib.Seq.{getD-take}
-use Rattle.deciding.specs.Deciding.{pick}
+use Rattle.deciding.specs.Deciding.{pick, both, both-false}
 use Rattle.layout.specs.Layout.{ruleNumbers, nodesLimit, rulesLimit, lastLink, treeWords, bookWords}
 use Rattle.bits.specs.Packed.{bits, sum}
-use Rattle.term.specs.Beginnings.{both, putIf, Begins}
+use Rattle.term.specs.Beginnings.{putIf, Begins}
 use Rattle.term.specs.Counting.{true≢false}
 use Rattle.term.specs.Whole.{whole-alone}
 use Rattle.term.specs.declared.reading.Reading.the-variants.{Whole}
@@ -53,10 +53,6 @@ module _ where
   pub empty-rules : rulesIn (replicate bookWords 0) ≡ noRules
   empty-rules = fun-ext (λ k. ap (λ (b : Bool). pick b (rule (ruleAt (view zeros) (view zeros .place k))) nothing) (not-held k))
     where
-      both-false : (a : Bool) → both a false ≡ false
-      both-false true = refl
-      both-false false = refl
-
       not-held : (k : ℕ) → heldAt (view zeros) k ≡ false
       not-held k =
           ap (λ (b : Bool). both (ltb (view zeros .place k) rulesLimit) (both b (eqb (number (view zeros) (view zeros .place k)) k))) (none .0 (nodesLimit + view zeros .place k))

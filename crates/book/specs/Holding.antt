@@ -8,9 +8,8 @@ use native.Mathlib.Omega.{arith}
 use borrow.Author.Tests.{lt-ltb, ltb-true, eqb-true}
 use lib.Dec.{eqb, ltb}
 use lib.ListN.{length, length-append, length-map, length-take}
-use Rattle.deciding.specs.Deciding.{pick}
+use Rattle.deciding.specs.Deciding.{pick, both, of-both, to-both}
 use Rattle.layout.specs.Layout.{ruleNumbers, nodesLimit, rulesLimit, lastLink}
-use Rattle.term.specs.Beginnings.{both}
 use Rattle.term.specs.Distinct.{as-many, distinct-map}
 use Rattle.term.specs.Counting.{true≢false, nodes-same}
 use Rattle.term.specs.Whole.{TermAt, whole-term}
@@ -24,13 +23,6 @@ use Rattle.book.specs.Rules.{Rule, Held, nothing, rule, Rules, isHeld, t
 use Rattle.book.specs.Gathered.{terms-standing, rule-inj, not-rule}
 use Rattle.book.specs.Memory.{View, taken, number, term, ruleAt, form, formOf, leaf, leaves, heldAt, rulesOf, Right}
 use Rattle.book.specs.Forms.{form-free, count-forms}
-
-both-true : (a b : Bool) → a ≡ true → b ≡ true → both a b ≡ true
-both-true a b e f = ap (λ (x : Bool). both x b) e ∙ f
-
-of-both : (a b : Bool) → both a b ≡ true → (a ≡ true) × (b ≡ true)
-of-both true b e = (refl, e)
-of-both false b e = absurd (true≢false e refl)
 
 -- The end of the rule at a place.
 abbrev pub endAt : View → ℕ → End
@@ -108,8 +100,8 @@ module _ (v : View) (small : (n : ℕ) → Used (v .tree) n → n < lastLink) (r
   at-holds r u =
       let p : v .place (number v r) ≡ r = right .records r u .found in
       let h : heldAt v (number v r) ≡ true = ap (λ (z : ℕ). both (ltb z rulesLimit) (both (taken v z) (eqb (number v z) (number v r)))) p
-      ∙ both-true (ltb r rulesLimit) (both (taken v r) (eqb (number v r) (number v r))) (lt-ltb r rulesLimit (place-low r u))
-      (both-true (taken v r) (eqb (number v r) (number v r)) u (eqb-exact (number v r))) in
+      ∙ to-both (ltb r rulesLimit) (both (taken v r) (eqb (number v r) (number v r))) (lt-ltb r rulesLimit (place-low r u))
+      (to-both (taken v r) (eqb (number v r) (number v r)) u (eqb-exact (number v r))) in
       ap₂ (λ (b : Bool) (z : ℕ). pick b (rule (ruleAt v z)) nothing) h p
 
   -- one place for one number

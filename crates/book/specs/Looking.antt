@@ -8,10 +8,9 @@ use borrow.Author.Tests.{lt-ltb, le-ltb, eq-eqb, ne-eqb}
 use lib.Dec.{eqb, ltb}
 use lib.ListN.{length, getD, take, drop, length-take, length-drop}
 use lib.Seq.{ext-getD, getD-take, getD-drop}
-use Rattle.deciding.specs.Deciding.{pick}
+use Rattle.deciding.specs.Deciding.{pick, both}
 use Rattle.layout.specs.Layout.{nodeMapWords, ruleMapWords, nodesLimit, rulesLimit, ruleMapAt, linksAt, rulesAt, lastLink, treeWords, bookWords}
 use Rattle.bits.specs.Packed.{bits, sum}
-use Rattle.term.specs.Beginnings.{both}
 use Rattle.tree.specs.Words.{cellOf}
 use Rattle.tree.specs.Tally.{marked}
 use Rattle.tree.specs.Limits.{rule-bit, nodes-held, rules-held, used-low}
@@ -55,10 +54,6 @@ module _ (ws : List ℕ) (k : ℕ) where
   picks : (a b c : Bool) → ltb (view ws .place k) rulesLimit ≡ a → taken (view ws) (view ws .place k) ≡ b → eqb (number (view ws) (view ws .place k)) k ≡ c
       → placeOf (view ws) k ≡ pick (both a (both b c)) (view ws .place k) rulesLimit
   picks a b c e f g = ap (λ (x : Bool). pick x (view ws .place k) rulesLimit) (ap₂ both e (ap₂ both f g))
-
-  both-false : (a : Bool) → both a false ≡ false
-  both-false true = refl
-  both-false false = refl
 
   pub too-high : (r : ℕ) → r ≡ view ws .place k → rulesLimit ≤ r → rulesLimit ≡ placeOf (view ws) k
   too-high r e h = sym (picks false (taken (view ws) (view ws .place k)) (eqb (number (view ws) (view ws .place k)) k) (le-ltb (view ws .place k) rulesLimit (subst (λ (z : ℕ). rulesLimit ≤ z) e h)) refl refl)

@@ -5,13 +5,12 @@ use mathlib.Core.Bool.{Bool, true}
 use Prim.Native.Nat.{ℕ, _+_, _*_, _≤_, _<_}
 use lib.Dec.{eqb, ltb}
 use lib.ListN.{length, getD, take, drop}
-use Rattle.deciding.specs.Deciding.{pick}
+use Rattle.deciding.specs.Deciding.{pick, both}
 use Rattle.layout.specs.Layout.{ruleNumbers, nodesLimit, rulesLimit, treeWords, placesAt, placeWords, termWords, recordWords, recordsAt, termsAt, bookWords}
 use Rattle.bits.specs.Packed.{fields}
 use Rattle.term.specs.Cells.{blankOf, numberOf}
 use Rattle.term.specs.Reading.{readTerm}
 use Rattle.term.specs.declared.reading.Reading.the-variants.{Whole}
-use Rattle.term.specs.Beginnings.{both}
 use Rattle.tree.specs.Shape.{Shape, Passes}
 use Rattle.tree.specs.Words.{shape}
 use Rattle.tree.specs.Tallies.{listed}

@@ -9,10 +9,8 @@ use borrow.Author.Tests.{ltb-true, eqb-true}
 use lib.Dec.{eqb, ltb}
 use lib.ListN.{length, getD, take, drop, replicate, length-take, length-drop, length-append, length-replicate, List·getD-append}
 use lib.Seq.{ext-getD, getD-take, getD-append-add}
-use Rattle.deciding.specs.Deciding.{pick}
+use Rattle.deciding.specs.Deciding.{pick, both, of-both}
 use Rattle.layout.specs.Layout.{rulesLimit, termWords, recordWords, termsAt}
-use Rattle.term.specs.Beginnings.{both}
-use Rattle.term.specs.Counting.{true≢false}
 use Rattle.book.specs.Rules.{nothing, rule, isHeld}
 use Rattle.book.specs.Memory.{View, view, taken, number, term, ruleAt, heldAt, Passing, rulesIn}
 use Rattle.book.specs.Holding.{term-at, term-size}
@@ -26,10 +24,6 @@ pub record Placed (ws : List ℕ) (k r : ℕ) : Type 0 where
   pub used : taken (view ws) r ≡ true
   pub has : number (view ws) r ≡ k
   pub rule-is : rulesIn ws k ≡ rule (ruleAt (view ws) r)
-
-of-both : (a b : Bool) → both a b ≡ true → (a ≡ true) × (b ≡ true)
-of-both true b e = (refl, e)
-of-both false b e = absurd (true≢false e refl)
 
 module _ (ws : List ℕ) (k r : ℕ) (e : r ≡ placeOf (view ws) k) where
   pub not-placed : r ≡ rulesLimit → rulesIn ws k ≡ nothing

@@ -10,9 +10,8 @@ use borrow.Author.Tests.{lt-ltb, eq-eqb, ne-eqb}
 use lib.Dec.{eqb, ltb}
 use lib.ListN.{length, getD, take, replicate}
 use lib.Seq.{take-at, getD-append-add, take-length}
-use Rattle.deciding.specs.Deciding.{pick}
+use Rattle.deciding.specs.Deciding.{pick, both, both-false}
 use Rattle.layout.specs.Layout.{ruleNumbers, nodesLimit, rulesLimit, lastLink}
-use Rattle.term.specs.Beginnings.{both}
 use Rattle.term.specs.Counting.{true≢false}
 use Rattle.term.specs.Reading.{readTerm}
 use Rattle.term.specs.declared.reading.Reading.the-variants.{Whole}
@@ -58,10 +57,6 @@ module _ {v v′ : View} {j : ℕ} (s : SameAt v v′ j) where
 -- a rule is held under k, by what stands at its place
 holding : View → ℕ → ℕ → Held
 holding v k r = pick (both (ltb r rulesLimit) (both (taken v r) (eqb (number v r) k))) (rule (ruleAt v r)) nothing
-
-both-false : (a : Bool) → both a false ≡ false
-both-false true = refl
-both-false false = refl
 
 not-taken : (v : View) (k r : ℕ) → taken v r ≡ false → holding v k r ≡ nothing
 unfolding holding
