@@ -7,23 +7,24 @@ use native.Mathlib.Omega.{arith}
 use lib.Dec.{leb, ltb}
 use lib.ListN.{length, take, drop, replicate}
 use lib.Seq.{take-append-seam}
+use Rattle.deciding.specs.Deciding.{pick}
 use Rattle.layout.specs.Layout.{rulesLimit, nodesLimit}
 use Rattle.bits.specs.Numbers.{has}
 use Rattle.term.specs.Counting.{true≢false}
 use Rattle.term.specs.Questions.{Mode}
-use Rattle.term.specs.Machine.{fillsQuestion}
+use Rattle.term.specs.Machine.{fillsQuestion, fillsRule}
 use Rattle.book.specs.declared.Added.{Added}
 use Rattle.book.specs.declared.Added.the-variants.{Taken, HeldAlready, BookFull, NoNodes}
 use Rattle.book.specs.declared.Removed.{Removed}
-use Rattle.book.specs.Rules.{Held, nothing, rule, Rules, isHeld, withRule, withoutRule, ruleCount, nodesOf, addRefusal, pickAdded, judged, after, removal, removeRefusal}
+use Rattle.book.specs.Rules.{Rule, Held, nothing, rule, Rules, isHeld, withRule, withoutRule, ruleCount, nodesOf, addRefusal, judged, after, removal, removeRefusal}
 use Rattle.book.specs.Memory.{Passing, rulesIn}
 use Rattle.book.specs.Promises.{Shows, shownSize, shownCells}
 use Rattle.change.specs.Promises.{Adds, Removes}
 use Rattle.book.specs.Facts.{limited}
-use Rattle.questions.specs.Asking.{numbers, answers}
+use Rattle.questions.specs.Asking.{numbers, inOrder, answers}
 use Rattle.questions.specs.Demand2.{never-more}
 use Rattle.questions.specs.Promises.{Asked, Lists}
-use Rattle.questions.specs.Listing.{numbers-answers}
+use Rattle.questions.specs.Listing.{marked-answers, marked-many}
 use Rattle.commands.specs.Records.{Record, bare, good}
 use Rattle.commands.specs.declared.reader.Command.{Command}
 use Rattle.commands.specs.declared.kinds.Act.{Act}
@@ -49,31 +50,34 @@ no-room-for ws out e h w = record { writes = w; fits = λ l. absurd (omega arith
 -- ---- adding
 
 -- a rule is taken only under a number that is free
-taken-free : (rules : Rules) (k : ℕ) (t : List ℕ) → judged rules k t ≡ Taken → rules k ≡ nothing
-taken-free rules k t = go (rules k)
+taken-free : (rules : Rules) (k : ℕ) (r : Rule) → judged rules k r ≡ Taken → rules k ≡ nothing
+taken-free rules k r = go (rules k)
   where
-    go : (h : Held) → pickAdded (isHeld h) HeldAlready (pickAdded (leb rulesLimit (ruleCount rules)) BookFull (pickAdded (ltb nodesLimit (nodesOf (withRule rules k t))) NoNodes Taken)) ≡ Taken → h ≡ nothing
+    go : (h : Held)
+        → pick (isHeld h) HeldAlready (pick (leb rulesLimit (ruleCount rules)) BookFull (pick (ltb nodesLimit (nodesOf (withRule rules k r))) NoNodes Taken)) ≡ Taken
+        → h ≡ nothing
     go nothing e = refl
     go (rule s) e = absurd (let z : _≡_ {A = ℕ} 0 1 = cc in omega arith)
 
-module _ (ws ws′ : List ℕ) (k : ℕ) (t : List ℕ) where
-  refused : (a : Added) → changeOf a k t ≡ [] → ¬ (a ≡ Taken) → Adds ws ws′ k t a → Becomes ws ws′ (after a (rulesIn ws) k t) (changeOf a k t)
+module _ (ws ws′ : List ℕ) (k : ℕ) (r : Rule) where
+  refused : (a : Added) → changeOf a k r ≡ [] → ¬ (a ≡ Taken) → Adds ws ws′ k r a → Becomes ws ws′ (after a (rulesIn ws) k r) (changeOf a k r)
   refused a e d x = record { passes = x .passes; rules-are = x .rules; along = subst (λ (cs : List Change). Along cs ws ws′) (sym e) (still ws ws′ (x .same d)) }
 
-  added : (a : Added) → Adds ws ws′ k t a → Becomes ws ws′ (after a (rulesIn ws) k t) (changeOf a k t)
+  added : (a : Added) → Adds ws ws′ k r a → Becomes ws ws′ (after a (rulesIn ws) k r) (changeOf a k r)
   added Taken x = record {
     passes = x .passes;
     rules-are = x .rules;
-    along = then (record { was = taken-free (rulesIn ws) k t (sym (x .answer)); passes = x .passes; rules-are = x .rules; nodes = x .nodes }) none;
+    along = then (record { was = taken-free (rulesIn ws) k r (sym (x .answer)); passes = x .passes; rules-are = x .rules; nodes = x .nodes }) none;
   }
   added HeldAlready x = refused HeldAlready refl (λ e. let z : _≡_ {A = ℕ} 0 1 = cc in omega arith) x
   added BookFull x = refused BookFull refl (λ e. let z : _≡_ {A = ℕ} 0 1 = cc in omega arith) x
   added NoNodes x = refused NoNodes refl (λ e. let z : _≡_ {A = ℕ} 0 1 = cc in omega arith) x
 
   abbrev effect : Added → Effect
-  effect a = record { answer = bare (addRefusal a); rules = after a (rulesIn ws) k t; changes = changeOf a k t }
+  effect a = record { answer = bare (addRefusal a); rules = after a (rulesIn ws) k r; changes = changeOf a k r }
 
-  pub add-done : (a : Added) (refusal : ℕ) (out out′ : List ℕ) (n : ℕ) → 0 < length out → Adds ws ws′ k t a → refusal ≡ addRefusal a → Writes (bare refusal) out out′ n → Does (adds (rulesIn ws) k t) ws ws′ out out′ n
+  pub add-done : (a : Added) (refusal : ℕ) (out out′ : List ℕ) (n : ℕ) → 0 < length out → Adds ws ws′ k r a → refusal ≡ addRefusal a → Writes (bare refusal) out out′ n
+      → Does (adds (rulesIn ws) k r) ws ws′ out out′ n
   add-done a refusal out out′ n h x e w =
       subst (λ (b : Added). Does (effect b) ws ws′ out out′ n) (x .answer)
       (record { writes = subst (λ (j : ℕ). Writes (bare j) out out′ n) e w; fits = λ _. added a x; short = λ l. absurd (omega arith) })
@@ -92,7 +96,7 @@ low-removal Rattle.book.specs.declared.Removed.the-variants.NotHeld = omega ari
 
 module _ (ws ws′ : List ℕ) (k : ℕ) (a : Removed) (x : Removes ws ws′ k a) where
   removed : (h : Held) → rulesIn ws k ≡ h → Becomes ws ws′ (withoutRule (rulesIn ws) k) (changeAt k h)
-  removed (rule t) e = record {
+  removed (rule r) e = record {
     passes = x .passes;
     rules-are = x .rules;
     along = then (record { was = e; passes = x .passes; rules-are = x .rules; nodes = x .nodes }) none;
@@ -112,17 +116,26 @@ module _ (ws q marks : List ℕ) (fillsQ fillsR : Bool) (asked : Asked fillsQ fi
   abbrev mode : Mode
   mode = modeOf fillsQ fillsR
 
-  pub these : numbers (has marks) 4096 ≡ answers mode q (rulesIn ws)
-  these = numbers-answers mode ws q marks (subst (λ (x : Bool). Asked (fillsQuestion mode) x ws q marks) (sym (fills-rule fillsQ fillsR)) (subst (λ (x : Bool). Asked x fillsR ws q marks) (sym (fills-question fillsQ fillsR)) asked))
+  asked-so : Asked (fillsQuestion mode) (fillsRule mode) ws q marks
+  asked-so =
+      subst (λ (x : Bool). Asked (fillsQuestion mode) x ws q marks) (sym (fills-rule fillsQ fillsR))
+      (subst (λ (x : Bool). Asked x fillsR ws q marks) (sym (fills-question fillsQ fillsR)) asked)
 
-  pub as-many : (out out′ : List ℕ) (n : ℕ) → Lists marks out out′ n → n ≡ length (answers mode q (rulesIn ws))
+  these : inOrder (rulesIn ws) (has marks) ≡ answers mode q (rulesIn ws)
+  these = marked-answers mode ws q marks asked-so
+
+  pub how-many : length (numbers (has marks) 4096) ≡ length (answers mode q (rulesIn ws))
+  how-many = marked-many mode ws q marks asked-so
+
+  pub as-many : (out out′ : List ℕ) (n : ℕ) → Lists (rulesIn ws) marks out out′ n → n ≡ length (answers mode q (rulesIn ws))
   as-many out out′ n l = l .count ∙ ap length these
 
-  pub listed-are : (out out′ : List ℕ) (n : ℕ) → Lists marks out out′ n → out′ ≡ answers mode q (rulesIn ws) ++ drop (length (answers mode q (rulesIn ws))) out
+  pub listed-are : (out out′ : List ℕ) (n : ℕ) → Lists (rulesIn ws) marks out out′ n
+      → out′ ≡ answers mode q (rulesIn ws) ++ drop (length (answers mode q (rulesIn ws))) out
   listed-are out out′ n l = l .is ∙ ap₂ (λ (z : List ℕ) (k : ℕ). z ++ drop k out) these (as-many out out′ n l)
 
   pub never-many : Passing ws → length (numbers (has marks) 4096) ≤ rulesLimit
-  never-many p = omega (arith, ap length these, never-more mode q (rulesIn ws), limited ws p .few)
+  never-many p = omega (arith, how-many, never-more mode q (rulesIn ws), limited ws p .few)
 
 -- ---- showing
 
@@ -136,16 +149,17 @@ module _ (ws : List ℕ) (k : ℕ) (held : Bool) (size : ℕ) (cells : List ℕ)
     where
       go : (h : Held) → rulesIn ws k ≡ h → bare 7 ≡ shown h
       go nothing q = refl
-      go (rule t) q = absurd (true≢false (x .is-held ∙ ap isHeld q) e)
+      go (rule r) q = absurd (true≢false (x .is-held ∙ ap isHeld q) e)
 
   pub is-shown : held ≡ true → IsShown ws k size cells
   is-shown e = go (rulesIn ws k) refl
     where
       go : (h : Held) → rulesIn ws k ≡ h → IsShown ws k size cells
       go nothing q = absurd (true≢false e (x .is-held ∙ ap isHeld q))
-      go (rule t) q =
-          let s : size ≡ length t = x .sized ∙ ap shownSize q in
-          let same : take size cells ≡ t = ap₂ (λ (n : ℕ) (l : List ℕ). take n l) s (x .shown ∙ ap shownCells q) ∙ take-append-seam t (replicate (32 - length t) 0) in
+      go (rule r) q =
+          let s : size ≡ length (r .term) = x .sized ∙ ap shownSize q in
+          let same : take size cells ≡ r .term = ap₂ (λ (n : ℕ) (l : List ℕ). take n l) s (x .shown ∙ ap shownCells q)
+          ∙ take-append-seam (r .term) (replicate (32 - length (r .term)) 0) in
           record { record-is = ap shown q ∙ ap good (sym same); sized = ap length same ∙ sym s }
 
 -- ---- a command is done by what its act says

@@ -7,12 +7,13 @@ use native.Mathlib.Omega.{arith}
 use borrow.Author.Tests.{lt-ltb, le-ltb, eq-eqb, ne-eqb}
 use lib.Dec.{eqb}
 use lib.ListN.{length, take, drop}
+use Rattle.deciding.specs.Deciding.{pick}
 use Rattle.book.specs.Rules.{Rules}
 use Rattle.commands.specs.declared.reader.Command.{Command}
 use Rattle.commands.specs.Commands.{commandIn}
 use Rattle.commands.specs.Records.{bare}
-use Rattle.batch.specs.Effects.{Change, Effect, tells, acts, pickEffect, does}
-use Rattle.batch.specs.Run.{Outcome, pickOutcome, ends, endsWith, goesOn, oneOf, runFrom, run}
+use Rattle.batch.specs.Effects.{Change, Effect, tells, acts, does}
+use Rattle.batch.specs.Run.{Outcome, ends, endsWith, goesOn, oneOf, runFrom, run}
 use Rattle.batch.specs.Promises.{Along, none, then}
 
 -- ---- a command that stops the batch, and one that goes on
@@ -23,18 +24,18 @@ module _ (rules : Rules) (behind : List ℕ) (c : Command) where
 
   pub does-stop : ¬ (c .stop ≡ 0) → does rules behind c ≡ tells (bare (c .stop)) rules
   unfolding does
-  does-stop n = ap (λ (b : Bool). pickEffect b acted (tells (bare (c .stop)) rules)) (ne-eqb (c .stop) 0 n)
+  does-stop n = ap (λ (b : Bool). pick b acted (tells (bare (c .stop)) rules)) (ne-eqb (c .stop) 0 n)
 
   pub does-act : c .stop ≡ 0 → does rules behind c ≡ acted
   unfolding does
-  does-act e = ap (λ (b : Bool). pickEffect b acted (tells (bare (c .stop)) rules)) (eq-eqb (c .stop) 0 e)
+  does-act e = ap (λ (b : Bool). pick b acted (tells (bare (c .stop)) rules)) (eq-eqb (c .stop) 0 e)
 
   -- what holds of each act and of each refusal holds of what a command does
   pub any-effect : (P : Effect → Type 0) → P acted → P (tells (bare (c .stop)) rules) → P (does rules behind c)
   unfolding does
   any-effect P a t = go (eqb (c .stop) 0)
     where
-      go : (b : Bool) → P (pickEffect b acted (tells (bare (c .stop)) rules))
+      go : (b : Bool) → P (pick b acted (tells (bare (c .stop)) rules))
       go true = a
       go false = t
 
@@ -66,22 +67,26 @@ module _ (rules : Rules) (c : ℕ) (behind : List ℕ) (room : ℕ) where
   abbrev later : Outcome
   later = runFrom (command .size) (effect .rules) behind (room - suc (length (effect .answer .cells)))
 
+  -- what comes of it where its record has room
+  abbrev written-on : Outcome
+  written-on = pick (eqb (command .stop) 0) (goesOn (suc (command .size)) effect later) (endsWith (command .stop) effect)
+
   one : run rules (c ∷ behind) room ≡ oneOf rules room command effect later
   unfolding runFrom
   one = refl
 
   pub run-10 : room ≤ length (effect .answer .cells) → run rules (c ∷ behind) room ≡ ends 10 rules
-  run-10 h = one ∙ ap (λ (b : Bool). pickOutcome b (pickOutcome (eqb (command .stop) 0) (goesOn (suc (command .size)) effect later) (endsWith (command .stop) effect)) (ends 10 rules)) (le-ltb (length (effect .answer .cells)) room h)
+  run-10 h = one ∙ ap (λ (b : Bool). pick b written-on (ends 10 rules)) (le-ltb (length (effect .answer .cells)) room h)
 
-  fits : length (effect .answer .cells) < room → run rules (c ∷ behind) room ≡ pickOutcome (eqb (command .stop) 0) (goesOn (suc (command .size)) effect later) (endsWith (command .stop) effect)
-  fits h = one ∙ ap (λ (b : Bool). pickOutcome b (pickOutcome (eqb (command .stop) 0) (goesOn (suc (command .size)) effect later) (endsWith (command .stop) effect)) (ends 10 rules)) (lt-ltb (length (effect .answer .cells)) room h)
+  fits : length (effect .answer .cells) < room → run rules (c ∷ behind) room ≡ written-on
+  fits h = one ∙ ap (λ (b : Bool). pick b written-on (ends 10 rules)) (lt-ltb (length (effect .answer .cells)) room h)
 
   pub run-stops : length (effect .answer .cells) < room → ¬ (command .stop ≡ 0) → run rules (c ∷ behind) room ≡ endsWith (command .stop) effect
-  run-stops h d = fits h ∙ ap (λ (b : Bool). pickOutcome b (goesOn (suc (command .size)) effect later) (endsWith (command .stop) effect)) (ne-eqb (command .stop) 0 d)
+  run-stops h d = fits h ∙ ap (λ (b : Bool). pick b (goesOn (suc (command .size)) effect later) (endsWith (command .stop) effect)) (ne-eqb (command .stop) 0 d)
 
   pub run-goes-on : length (effect .answer .cells) < room → command .stop ≡ 0 → run rules (c ∷ behind) room ≡ goesOn (suc (command .size)) effect rest
   run-goes-on h e =
-      fits h ∙ ap (λ (b : Bool). pickOutcome b (goesOn (suc (command .size)) effect later) (endsWith (command .stop) effect)) (eq-eqb (command .stop) 0 e)
+      fits h ∙ ap (λ (b : Bool). pick b (goesOn (suc (command .size)) effect later) (endsWith (command .stop) effect)) (eq-eqb (command .stop) 0 e)
       ∙ ap (goesOn (suc (command .size)) effect) (skipped (command .size) (effect .rules) behind (room - suc (length (effect .answer .cells))))
 
 -- ---- memories along changes

@@ -15,8 +15,8 @@ use Rattle.batch.specs.Run.{Outcome, run}
 -- One change of the book, from a memory to the next: that rule comes or goes and no other does, and the nodes that come into use are the free ones
 -- of lowest number, or none.
 abbrev pub TakesNodes : Change → Shape → Shape → Type 0
-TakesNodes (more k term) m m′ = TakesLowest m m′
-TakesNodes (less k term) m m′ = TakesNone m m′
+TakesNodes (more k r) m m′ = TakesLowest m m′
+TakesNodes (less k r) m m′ = TakesNone m m′
 
 pub record Changes (c : Change) (ws ws′ : List ℕ) : Type 0 where
   pub was : rulesIn ws (changedNumber c) ≡ heldBefore c

@@ -1,9 +1,9 @@
 -- A batch: its commands in turn. Reference 8.
 use mathlib.Core.List.{List, [], _∷_, _++_}
-use mathlib.Core.Bool.{Bool, true, false}
 use Prim.Native.Nat.{ℕ, zero, suc, _+_, _-_}
 use lib.Dec.{eqb, ltb}
 use lib.ListN.{length}
+use Rattle.deciding.specs.Deciding.{pick}
 use Rattle.book.specs.Rules.{Rules}
 use Rattle.commands.specs.Records.{Record}
 use Rattle.commands.specs.declared.reader.Command.{Command}
@@ -17,10 +17,6 @@ pub record Outcome : Type 0 where
   pub records : List Record
   pub rules : Rules
   pub changes : List Change
-
-abbrev pub pickOutcome : Bool → Outcome → Outcome → Outcome
-pickOutcome true a b = a
-pickOutcome false a b = b
 
 -- It ends here, without a record: all cells are used (0), or a record does not fit (10).
 abbrev pub ends : ℕ → Rules → Outcome
@@ -37,8 +33,8 @@ goesOn size e rest = record { stop = rest .stop; used = size + rest .used; recor
 -- One command with its effect, where there is room for so many cells. 10 replaces any record that does not fit.
 abbrev pub oneOf : Rules → ℕ → Command → Effect → Outcome → Outcome
 oneOf rules room command e rest =
-    pickOutcome (ltb (length (e .answer .cells)) room)
-    (pickOutcome (eqb (command .stop) 0) (goesOn (suc (command .size)) e rest) (endsWith (command .stop) e))
+    pick (ltb (length (e .answer .cells)) room)
+    (pick (eqb (command .stop) 0) (goesOn (suc (command .size)) e rest) (endsWith (command .stop) e))
     (ends 10 rules)
 
 -- The commands in turn; so many cells, those of a term that was read, are passed over first.

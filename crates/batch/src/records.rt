@@ -6,7 +6,7 @@ ghost use lib.ListN.{length};
 ghost use lib.Dec.{ltb};
 ghost use Rattle.bits.specs.Numbers.{NumberSet, has};
 ghost use Rattle.questions.specs.Asking.{numbers};
-ghost use Rattle.book.specs.Rules.{addRefusal, removeRefusal};
+ghost use Rattle.book.specs.Rules.{plain, addRefusal, removeRefusal};
 ghost use Rattle.book.specs.Memory.{Passing, rulesIn};
 ghost use Rattle.book.specs.Promises.{IsTerm};
 ghost use Rattle.batch.specs.Effects.{adds, removes, asks, shows, counts};
@@ -44,7 +44,7 @@ pub fn add(book: &mut [u64], number: u16, term: &[u16], out: &mut [u16]) -> usiz
     requires { ⌜ Passing (now book) ⌝ }
     requires { ⌜ number < 4096 ⌝ }
     requires { ⌜ IsTerm (now term) ⌝ }
-    ensures { λ n. ⌜ Does (adds (rulesIn (now (book .entry))) number (now (term .entry))) (now (book .entry)) (now (book .exit)) (now (out .entry)) (now (out .exit)) n ⌝ }
+    ensures { λ n. ⌜ Does (adds (rulesIn (now (book .entry))) number (plain (now (term .entry)))) (now (book .entry)) (now (book .exit)) (now (out .entry)) (now (out .exit)) n ⌝ }
 {
     if out.len() == 0 {
         return 0;

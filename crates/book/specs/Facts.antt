@@ -2,16 +2,17 @@
 -- their nodes; two allowed outcomes of a call are the same; and what a call answers depends on the set of rules alone.
 use mathlib.Core.Path.{_≡_, refl, sym, ap, _∙_, subst, fun-ext}
 use mathlib.Core.List.{List, [], map, reverse, append-nil, List·Memᴰ}
-use mathlib.Core.Bool.{Bool, true, false}
-use Prim.Native.Nat.{ℕ, zero, suc, _+_, _-_, _≤_, _<_}
+use mathlib.Core.Bool.{Bool, false}
+use Prim.Native.Nat.{ℕ, zero, suc, _+_, _≤_, _<_}
 use native.Mathlib.Omega.{arith}
 use native.Mathlib.Decide.{ℕ-discrete}
 use lib.Dec.{eqb, ltb}
 use lib.ListN.{length, take, replicate, length-take, length-replicate, getD-replicate}
 use lib.Seq.{getD-take}
+use Rattle.deciding.specs.Deciding.{pick, both, both-false}
 use Rattle.layout.specs.Layout.{ruleNumbers, nodesLimit, rulesLimit, lastLink, treeWords, bookWords}
 use Rattle.bits.specs.Packed.{bits, sum}
-use Rattle.term.specs.Beginnings.{both, putIf, Begins}
+use Rattle.term.specs.Beginnings.{putIf, Begins}
 use Rattle.term.specs.Counting.{true≢false}
 use Rattle.term.specs.Whole.{whole-alone}
 use Rattle.term.specs.declared.reading.Reading.the-variants.{Whole}
@@ -22,8 +23,8 @@ use Rattle.tree.specs.Tallies.{listed, tally-le}
 use Rattle.tree.specs.Leaves.{ends, bases, numbered}
 use Rattle.tree.specs.NodeCount.{Numbered}
 use Rattle.tree.specs.Limits.{used-low, nodeMap, nodes-held, empty-words}
-use Rattle.book.specs.Rules.{nothing, rule, Rules, isHeld, noRules, pickHeld, terms, ruleCount, nodesOf}
-use Rattle.book.specs.Memory.{view, taken, number, term, formOf, leaf, leaves, heldAt, Passing, rulesIn}
+use Rattle.book.specs.Rules.{Rule, nothing, rule, Rules, isHeld, noRules, terms, ruleCount, nodesOf}
+use Rattle.book.specs.Memory.{view, taken, number, term, ruleAt, formOf, leaf, leaves, heldAt, Passing, rulesIn}
 use Rattle.book.specs.Holding.{hanging, holds-at, number-low, term-size, base-forms, nodes-tally, rules-tally, count-tally}
 use Rattle.book.specs.Promises.{IsTerm, Empties, shownSize, shownCells, Shows, Counts}
 
@@ -50,12 +51,8 @@ module _ where
   }
 
   pub empty-rules : rulesIn (replicate bookWords 0) ≡ noRules
-  empty-rules = fun-ext (λ k. ap (λ (b : Bool). pickHeld b (rule (term (view zeros) (view zeros .place k))) nothing) (not-held k))
+  empty-rules = fun-ext (λ k. ap (λ (b : Bool). pick b (rule (ruleAt (view zeros) (view zeros .place k))) nothing) (not-held k))
     where
-      both-false : (a : Bool) → both a false ≡ false
-      both-false true = refl
-      both-false false = refl
-
       not-held : (k : ℕ) → heldAt (view zeros) k ≡ false
       not-held k =
           ap (λ (b : Bool). both (ltb (view zeros .place k) rulesLimit) (both b (eqb (number (view zeros) (view zeros .place k)) k))) (none .0 (nodesLimit + view zeros .place k))
@@ -66,8 +63,8 @@ module _ where
 pub record Limited (rules : Rules) : Type 0 where
   pub few : ruleCount rules ≤ rulesLimit
   pub nodes : nodesOf rules ≤ nodesLimit
-  pub numbers : (k : ℕ) (t : List ℕ) → rules k ≡ rule t → k < ruleNumbers
-  pub whole : (k : ℕ) (t : List ℕ) → rules k ≡ rule t → IsTerm t
+  pub numbers : (k : ℕ) (r : Rule) → rules k ≡ rule r → k < ruleNumbers
+  pub whole : (k : ℕ) (r : Rule) → rules k ≡ rule r → IsTerm (r .term)
 
 -- The used nodes and the different beginnings of blank forms go together one by one.
 pub record Nodes (ws : List ℕ) : Type 0 where
@@ -91,11 +88,11 @@ module _ (ws : List ℕ) (p : Passing ws) where
     whole = whole;
   }
     where
-      whole : (k : ℕ) (t : List ℕ) → rulesIn ws k ≡ rule t → IsTerm t
-      whole k t e =
-          let a = holds-at (view ws) k t e in
-          let r = p .right .records (a .place) (a .used) in
-          subst IsTerm (append-nil _ ∙ a .is) (whole-alone (view ws .cells (a .place)) [] (view ws .size (a .place)) (r .whole)
+      whole : (k : ℕ) (r : Rule) → rulesIn ws k ≡ rule r → IsTerm (r .term)
+      whole k r e =
+          let a = holds-at (view ws) k r e in
+          let c = p .right .records (a .place) (a .used) in
+          subst IsTerm (append-nil _ ∙ ap (λ (x : Rule). x .term) (a .is)) (whole-alone (view ws .cells (a .place)) [] (view ws .size (a .place)) (c .whole)
           ∙ ap Whole (sym (term-size (view ws) low (p .right) (a .place) (a .used)) ∙ ap length (sym (append-nil (term (view ws) (a .place))))))
 
   begins : {q : List ℕ} {fs gs : List (List ℕ)} → ((f : List ℕ) → List·Memᴰ f fs → List·Memᴰ f gs) → Begins q fs → Begins q gs

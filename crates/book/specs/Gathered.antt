@@ -6,7 +6,7 @@ use Prim.Native.Nat.{ℕ, zero, suc, _+_, _≤_, _<_}
 use native.Mathlib.Omega.{arith}
 use native.Mathlib.Decide.{ℕ-discrete}
 use Rattle.layout.specs.Layout.{ruleNumbers}
-use Rattle.book.specs.Rules.{Held, nothing, rule, Rules, termsOf, each, terms}
+use Rattle.book.specs.Rules.{Rule, Held, nothing, rule, Rules, termsOf, each, terms}
 
 module _ {A : Type 0} (f : ℕ → List A) where
   pub record Gathered (n k : ℕ) (x : A) : Type 0 where
@@ -57,27 +57,30 @@ unfolding each
 each-none f zero k h = refl
 each-none f (suc n) k h = ap₂ _++_ (h k (omega arith) (omega arith)) (each-none f n (suc k) (λ j a b. h j (omega arith) (omega arith)))
 
--- nothing is no rule, and a rule has one term
-pub rule-inj : {s t : List ℕ} → rule s ≡ rule t → s ≡ t
+-- nothing is no rule, and a number has one rule
+pub rule-inj : {r s : Rule} → rule r ≡ rule s → r ≡ s
 rule-inj e = cc
 
-pub not-rule : {t : List ℕ} → ¬ (nothing ≡ rule t)
+pub not-rule : {r : Rule} → ¬ (nothing ≡ rule r)
 not-rule e = let z : _≡_ {A = ℕ} 0 1 = cc in omega arith
 
--- the terms of some rules: exactly those that stand under a number
-term-held : {t : List ℕ} (h : Held) → List·Memᴰ t (termsOf h) → h ≡ rule t
-term-held nothing i = absurd (List·Memᴰ·not-nil i)
-term-held (rule s) i = ap rule (sym (List·Memᴰ·eq-of-singleton i))
-
+-- the terms of some rules: exactly those of a rule that stands under a number
 pub record Standing (rules : Rules) (t : List ℕ) : Type 0 where
   pub number : ℕ
   pub low : number < ruleNumbers
-  pub is : rules number ≡ rule t
+  pub its : Rule
+  pub is : rules number ≡ rule its
+  pub term-is : its .term ≡ t
+
+term-held : {t : List ℕ} (h : Held) → List·Memᴰ t (termsOf h) → (r : Rule) × (h ≡ rule r) × (r .term ≡ t)
+term-held nothing i = absurd (List·Memᴰ·not-nil i)
+term-held (rule r) i = (r, refl, sym (List·Memᴰ·eq-of-singleton i))
 
 pub terms-standing : (rules : Rules) (t : List ℕ) → List·Memᴰ t (terms rules) ↔ Standing rules t
 terms-standing rules t = (
   (λ i. let g = of-each (λ k. termsOf (rules k)) ruleNumbers 0 i in
-      record { number = g .at; low = (let b = g .below in omega arith); is = term-held (rules (g .at)) (g .among) }),
+      let h = term-held (rules (g .at)) (g .among) in
+      record { number = g .at; low = (let b = g .below in omega arith); its = h .0; is = h .1; term-is = h .2 }),
   (λ s. to-each (λ k. termsOf (rules k)) ruleNumbers 0
-      (record { at = s .number; from = omega arith; below = (let l = s .low in omega arith); among = subst (λ h. List·Memᴰ t (termsOf h)) (sym (s .is)) (List·Memᴰ·head refl) })),
+      (record { at = s .number; from = omega arith; below = (let l = s .low in omega arith); among = subst (λ h. List·Memᴰ t (termsOf h)) (sym (s .is)) (List·Memᴰ·head (sym (s .term-is))) })),
 )

@@ -8,8 +8,8 @@ use native.Mathlib.Omega.{arith}
 use borrow.Author.Tests.{lt-ltb, ltb-true, eqb-true}
 use lib.Dec.{eqb, ltb}
 use lib.ListN.{length, length-append, length-map, length-take}
+use Rattle.deciding.specs.Deciding.{pick, both, of-both, to-both}
 use Rattle.layout.specs.Layout.{ruleNumbers, nodesLimit, rulesLimit, lastLink}
-use Rattle.term.specs.Beginnings.{both}
 use Rattle.term.specs.Distinct.{as-many, distinct-map}
 use Rattle.term.specs.Counting.{true≢false, nodes-same}
 use Rattle.term.specs.Whole.{TermAt, whole-term}
@@ -19,17 +19,10 @@ use Rattle.tree.specs.Tally.{tally}
 use Rattle.tree.specs.Tallies.{listed, length-listed, of-listed, to-listed, listed-distinct}
 use Rattle.tree.specs.Leaves.{Leaf, endOf, ends, bases, Hanging, numbered}
 use Rattle.tree.specs.NodeCount.{nodes-are}
-use Rattle.book.specs.Rules.{Held, nothing, rule, Rules, isHeld, termsOf, pickHeld, each, terms, ruleCount, nodesOf}
+use Rattle.book.specs.Rules.{Rule, Held, nothing, rule, Rules, isHeld, termsOf, each, terms, ruleCount, nodesOf}
 use Rattle.book.specs.Gathered.{terms-standing, rule-inj, not-rule}
-use Rattle.book.specs.Memory.{View, taken, number, term, form, formOf, leaf, leaves, heldAt, rulesOf, Right}
+use Rattle.book.specs.Memory.{View, taken, number, term, ruleAt, form, formOf, leaf, leaves, heldAt, rulesOf, Right}
 use Rattle.book.specs.Forms.{form-free, count-forms}
-
-both-true : (a b : Bool) → a ≡ true → b ≡ true → both a b ≡ true
-both-true a b e f = ap (λ (x : Bool). both x b) e ∙ f
-
-of-both : (a b : Bool) → both a b ≡ true → (a ≡ true) × (b ≡ true)
-of-both true b e = (refl, e)
-of-both false b e = absurd (true≢false e refl)
 
 -- The end of the rule at a place.
 abbrev pub endAt : View → ℕ → End
@@ -46,18 +39,18 @@ of-ends v u i =
 pub to-ends : (v : View) (u : ℕ → Bool) (r : ℕ) → u r ≡ true → r < rulesLimit → List·Memᴰ (endAt v r) (ends (map (leaf v) (listed u rulesLimit)))
 to-ends v u r e l = Memᴰ·map endOf (Memᴰ·map (leaf v) (to-listed u rulesLimit r e l))
 
--- The rule with the number k and the term t, at the place r.
-pub record At (v : View) (k : ℕ) (t : List ℕ) : Type 0 where
+-- The rule r under the number k, at its place.
+pub record At (v : View) (k : ℕ) (r : Rule) : Type 0 where
   pub place : ℕ
   pub low : place < rulesLimit
   pub used : taken v place ≡ true
   pub has : number v place ≡ k
-  pub is : term v place ≡ t
+  pub is : ruleAt v place ≡ r
 
-pub holds-at : (v : View) (k : ℕ) (t : List ℕ) → rulesOf v k ≡ rule t → At v k t
-holds-at v k t e = go (heldAt v k) refl e
+pub holds-at : (v : View) (k : ℕ) (r : Rule) → rulesOf v k ≡ rule r → At v k r
+holds-at v k r e = go (heldAt v k) refl e
   where
-    go : (b : Bool) → heldAt v k ≡ b → pickHeld b (rule (term v (v .place k))) nothing ≡ rule t → At v k t
+    go : (b : Bool) → heldAt v k ≡ b → pick b (rule (ruleAt v (v .place k))) nothing ≡ rule r → At v k r
     go true q e =
         let a = of-both (ltb (v .place k) rulesLimit) (both (taken v (v .place k)) (eqb (number v (v .place k)) k)) q in
         let b = of-both (taken v (v .place k)) (eqb (number v (v .place k)) k) (a .1) in
@@ -103,25 +96,25 @@ module _ (v : View) (small : (n : ℕ) → Used (v .tree) n → n < lastLink) (r
           omega (arith, term-at (a .0) (a .1) .short)
 
   -- each place that is taken has its number's rule
-  pub at-holds : (r : ℕ) → taken v r ≡ true → rulesOf v (number v r) ≡ rule (term v r)
+  pub at-holds : (r : ℕ) → taken v r ≡ true → rulesOf v (number v r) ≡ rule (ruleAt v r)
   at-holds r u =
       let p : v .place (number v r) ≡ r = right .records r u .found in
       let h : heldAt v (number v r) ≡ true = ap (λ (z : ℕ). both (ltb z rulesLimit) (both (taken v z) (eqb (number v z) (number v r)))) p
-      ∙ both-true (ltb r rulesLimit) (both (taken v r) (eqb (number v r) (number v r))) (lt-ltb r rulesLimit (place-low r u))
-      (both-true (taken v r) (eqb (number v r) (number v r)) u (eqb-exact (number v r))) in
-      ap₂ (λ (b : Bool) (z : ℕ). pickHeld b (rule (term v z)) nothing) h p
+      ∙ to-both (ltb r rulesLimit) (both (taken v r) (eqb (number v r) (number v r))) (lt-ltb r rulesLimit (place-low r u))
+      (to-both (taken v r) (eqb (number v r) (number v r)) u (eqb-exact (number v r))) in
+      ap₂ (λ (b : Bool) (z : ℕ). pick b (rule (ruleAt v z)) nothing) h p
 
   -- one place for one number
   pub one-place : (r s : ℕ) → taken v r ≡ true → taken v s ≡ true → number v r ≡ number v s → r ≡ s
   one-place r s u w e = sym (right .records r u .found) ∙ ap (v .place) e ∙ right .records s w .found
 
-  pub number-low : (k : ℕ) (t : List ℕ) → rulesOf v k ≡ rule t → k < ruleNumbers
-  number-low k t e = let a = holds-at v k t e in subst (λ (z : ℕ). z < ruleNumbers) (a .has) (right .records (a .place) (a .used) .low)
+  pub number-low : (k : ℕ) (r : Rule) → rulesOf v k ≡ rule r → k < ruleNumbers
+  number-low k r e = let a = holds-at v k r e in subst (λ (z : ℕ). z < ruleNumbers) (a .has) (right .records (a .place) (a .used) .low)
 
   -- as many rules as places taken
-  held-true : (h : Held) → isHeld h ≡ true → (t : List ℕ) × (h ≡ rule t)
+  held-true : (h : Held) → isHeld h ≡ true → (r : Rule) × (h ≡ rule r)
   held-true nothing e = absurd (true≢false e refl)
-  held-true (rule t) e = (t, refl)
+  held-true (rule r) e = (r, refl)
 
   pub rules-tally : tally (λ k. isHeld (rulesOf v k)) ruleNumbers ≡ tally (taken v) rulesLimit
   rules-tally =
@@ -148,14 +141,15 @@ module _ (v : View) (small : (n : ℕ) → Used (v .tree) n → n < lastLink) (r
           let q = Memᴰ·of-map (λ (x : Leaf). x .form) (leaves v) i in
           let a = leaf-taken (q .1) in
           Memᴰ·cast (sym (ap (λ (x : Leaf). x .form) (a .2) ∙ q .2))
-          (Memᴰ·map formOf (terms-standing (rulesOf v) (term v (a .0)) .1 (record { number = number v (a .0); low = right .records (a .0) (a .1) .low; is = at-holds (a .0) (a .1) })))
+          (Memᴰ·map formOf (terms-standing (rulesOf v) (term v (a .0)) .1
+          (record { number = number v (a .0); low = right .records (a .0) (a .1) .low; its = ruleAt v (a .0); is = at-holds (a .0) (a .1); term-is = refl })))
 
       of : List·Memᴰ f (map formOf (terms (rulesOf v))) → List·Memᴰ f (bases (leaves v))
       of i =
           let q = Memᴰ·of-map formOf (terms (rulesOf v)) i in
           let s = terms-standing (rulesOf v) (q .0) .0 (q .1) in
-          let a = holds-at v (s .number) (q .0) (s .is) in
-          Memᴰ·cast (sym (q .2) ∙ ap formOf (sym (a .is))) (Memᴰ·map (λ (x : Leaf). x .form) (taken-leaf (a .place) (a .used)))
+          let a = holds-at v (s .number) (s .its) (s .is) in
+          Memᴰ·cast (sym (q .2) ∙ ap formOf (sym (ap (λ (x : Rule). x .term) (a .is) ∙ s .term-is))) (Memᴰ·map (λ (x : Leaf). x .form) (taken-leaf (a .place) (a .used)))
 
   -- the nodes are those of the rules
   pub nodes-tally : nodesOf (rulesOf v) ≡ tally (v .tree .used) nodesLimit
@@ -180,7 +174,7 @@ count-tally rules = go ruleNumbers
 
     one : (h : Held) → length (termsOf h) ≡ Rattle.tree.specs.Tally.bit (isHeld h)
     one nothing = refl
-    one (rule t) = refl
+    one (rule r) = refl
 
     go : (n : ℕ) → length (each f n 0) ≡ tally (λ k. isHeld (rules k)) n
     go zero = refl

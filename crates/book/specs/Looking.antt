@@ -8,16 +8,16 @@ use borrow.Author.Tests.{lt-ltb, le-ltb, eq-eqb, ne-eqb}
 use lib.Dec.{eqb, ltb}
 use lib.ListN.{length, getD, take, drop, length-take, length-drop}
 use lib.Seq.{ext-getD, getD-take, getD-drop}
+use Rattle.deciding.specs.Deciding.{pick, both}
 use Rattle.layout.specs.Layout.{nodeMapWords, ruleMapWords, nodesLimit, rulesLimit, ruleMapAt, linksAt, rulesAt, lastLink, treeWords, bookWords}
 use Rattle.bits.specs.Packed.{bits, sum}
-use Rattle.term.specs.Beginnings.{both}
 use Rattle.tree.specs.Words.{cellOf}
 use Rattle.tree.specs.Tally.{marked}
 use Rattle.tree.specs.Limits.{rule-bit, nodes-held, rules-held, used-low}
 use Rattle.tree.specs.Shape.{Used}
-use Rattle.book.specs.Memory.{view, taken, number, heldAt, Passing, rulesIn}
+use Rattle.book.specs.Memory.{view, taken, number, Passing, rulesIn}
 use Rattle.book.specs.Holding.{rules-tally, nodes-tally, count-tally}
-use Rattle.book.specs.Promises.{pickPlace, Counts}
+use Rattle.book.specs.Promises.{placeOf, Counts}
 
 -- a window inside the tree's words
 pub inside : (ws : List ℕ) (b n : ℕ) → b + n ≤ treeWords → take n (drop b (take treeWords ws)) ≡ take n (drop b ws)
@@ -52,14 +52,10 @@ module _ (ws : List ℕ) (k : ℕ) where
   place = view ws .place k
 
   picks : (a b c : Bool) → ltb (view ws .place k) rulesLimit ≡ a → taken (view ws) (view ws .place k) ≡ b → eqb (number (view ws) (view ws .place k)) k ≡ c
-      → pickPlace (heldAt (view ws) k) (view ws .place k) ≡ pickPlace (both a (both b c)) (view ws .place k)
-  picks a b c e f g = ap (λ (x : Bool). pickPlace x (view ws .place k)) (ap₂ both e (ap₂ both f g))
+      → placeOf (view ws) k ≡ pick (both a (both b c)) (view ws .place k) rulesLimit
+  picks a b c e f g = ap (λ (x : Bool). pick x (view ws .place k) rulesLimit) (ap₂ both e (ap₂ both f g))
 
-  both-false : (a : Bool) → both a false ≡ false
-  both-false true = refl
-  both-false false = refl
-
-  pub too-high : (r : ℕ) → r ≡ view ws .place k → rulesLimit ≤ r → rulesLimit ≡ pickPlace (heldAt (view ws) k) (view ws .place k)
+  pub too-high : (r : ℕ) → r ≡ view ws .place k → rulesLimit ≤ r → rulesLimit ≡ placeOf (view ws) k
   too-high r e h = sym (picks false (taken (view ws) (view ws .place k)) (eqb (number (view ws) (view ws .place k)) k) (le-ltb (view ws .place k) rulesLimit (subst (λ (z : ℕ). rulesLimit ≤ z) e h)) refl refl)
 
   module _ (r : ℕ) (e : r ≡ view ws .place k) (h : r < rulesLimit) where
@@ -72,13 +68,14 @@ module _ (ws : List ℕ) (k : ℕ) where
     is-number : (c : ℕ) → c ≡ cellOf (getD ws (rulesAt + r) 0) → number (view ws) (view ws .place k) ≡ c
     is-number c g = ap (number (view ws)) (sym e) ∙ sym (rule-number ws r h) ∙ sym g
 
-    pub not-taken : (b : Bool) → b ≡ eqb (getD (bits (take ruleMapWords (drop ruleMapAt ws))) r 0) 1 → b ≡ false → rulesLimit ≡ pickPlace (heldAt (view ws) k) (view ws .place k)
+    pub not-taken : (b : Bool) → b ≡ eqb (getD (bits (take ruleMapWords (drop ruleMapAt ws))) r 0) 1 → b ≡ false → rulesLimit ≡ placeOf (view ws) k
     not-taken b f q = sym (picks true false (eqb (number (view ws) (view ws .place k)) k) low (is-taken b f ∙ q) refl)
 
-    pub other-number : (b : Bool) → b ≡ eqb (getD (bits (take ruleMapWords (drop ruleMapAt ws))) r 0) 1 → b ≡ true → (c : ℕ) → c ≡ cellOf (getD ws (rulesAt + r) 0) → ¬ (c ≡ k) → rulesLimit ≡ pickPlace (heldAt (view ws) k) (view ws .place k)
+    pub other-number : (b : Bool) → b ≡ eqb (getD (bits (take ruleMapWords (drop ruleMapAt ws))) r 0) 1 → b ≡ true
+        → (c : ℕ) → c ≡ cellOf (getD ws (rulesAt + r) 0) → ¬ (c ≡ k) → rulesLimit ≡ placeOf (view ws) k
     other-number b f q c g n = sym (picks true true false low (is-taken b f ∙ q) (ne-eqb (number (view ws) (view ws .place k)) k (λ d. n (sym (is-number c g) ∙ d))))
 
-    pub found : (b : Bool) → b ≡ eqb (getD (bits (take ruleMapWords (drop ruleMapAt ws))) r 0) 1 → b ≡ true → (c : ℕ) → c ≡ cellOf (getD ws (rulesAt + r) 0) → c ≡ k → r ≡ pickPlace (heldAt (view ws) k) (view ws .place k)
+    pub found : (b : Bool) → b ≡ eqb (getD (bits (take ruleMapWords (drop ruleMapAt ws))) r 0) 1 → b ≡ true → (c : ℕ) → c ≡ cellOf (getD ws (rulesAt + r) 0) → c ≡ k → r ≡ placeOf (view ws) k
     found b f q c g n = e ∙ sym (picks true true true low (is-taken b f ∙ q) (eq-eqb (number (view ws) (view ws .place k)) k (is-number c g ∙ n)))
 
 -- the two counts

@@ -5,17 +5,17 @@ use mathlib.Core.Bool.{Bool, true}
 use Prim.Native.Nat.{ℕ, _+_, _*_, _≤_, _<_}
 use lib.Dec.{eqb, ltb}
 use lib.ListN.{length, getD, take, drop}
+use Rattle.deciding.specs.Deciding.{pick, both}
 use Rattle.layout.specs.Layout.{ruleNumbers, nodesLimit, rulesLimit, treeWords, placesAt, placeWords, termWords, recordWords, recordsAt, termsAt, bookWords}
 use Rattle.bits.specs.Packed.{fields}
 use Rattle.term.specs.Cells.{blankOf, numberOf}
 use Rattle.term.specs.Reading.{readTerm}
 use Rattle.term.specs.declared.reading.Reading.the-variants.{Whole}
-use Rattle.term.specs.Beginnings.{both}
 use Rattle.tree.specs.Shape.{Shape, Passes}
 use Rattle.tree.specs.Words.{shape}
 use Rattle.tree.specs.Tallies.{listed}
 use Rattle.tree.specs.Leaves.{Leaf, ends}
-use Rattle.book.specs.Rules.{nothing, rule, Rules, pickHeld}
+use Rattle.book.specs.Rules.{Rule, nothing, rule, Rules}
 
 -- What memory says: the tree with the rules that hang in it, and for each rule number the place of its record, for each
 -- place the length of the term there and 32 cells.
@@ -52,6 +52,10 @@ module _ (v : View) where
   abbrev pub term : ℕ → List ℕ
   term r = take (v .size r) (v .cells r)
 
+  -- The rule there, as its record has it.
+  abbrev pub ruleAt : ℕ → Rule
+  ruleAt r = record { term = term r }
+
   abbrev pub form : ℕ → List ℕ
   form r = formOf (term r)
 
@@ -66,7 +70,7 @@ module _ (v : View) where
   heldAt k = both (ltb (v .place k) rulesLimit) (both (taken (v .place k)) (eqb (number (v .place k)) k))
 
   abbrev pub rulesOf : Rules
-  rulesOf k = pickHeld (heldAt k) (rule (term (v .place k))) nothing
+  rulesOf k = pick (heldAt k) (rule (ruleAt (v .place k))) nothing
 
   -- A record is right: its number is below 4,096 and leads back to it, its cells are one whole term of its length, and zeros.
   pub record Recorded (r : ℕ) : Type 0 where

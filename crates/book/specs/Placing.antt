@@ -9,13 +9,12 @@ use borrow.Author.Tests.{ltb-true, eqb-true}
 use lib.Dec.{eqb, ltb}
 use lib.ListN.{length, getD, take, drop, replicate, length-take, length-drop, length-append, length-replicate, List·getD-append}
 use lib.Seq.{ext-getD, getD-take, getD-append-add}
+use Rattle.deciding.specs.Deciding.{pick, both, of-both}
 use Rattle.layout.specs.Layout.{rulesLimit, termWords, recordWords, termsAt}
-use Rattle.term.specs.Beginnings.{both}
-use Rattle.term.specs.Counting.{true≢false}
-use Rattle.book.specs.Rules.{nothing, rule, isHeld, pickHeld}
-use Rattle.book.specs.Memory.{View, view, taken, number, term, heldAt, Passing, rulesIn}
+use Rattle.book.specs.Rules.{nothing, rule, isHeld}
+use Rattle.book.specs.Memory.{View, view, taken, number, term, ruleAt, heldAt, Passing, rulesIn}
 use Rattle.book.specs.Holding.{term-at, term-size}
-use Rattle.book.specs.Promises.{Shows, shownSize, shownCells, pickPlace}
+use Rattle.book.specs.Promises.{Shows, shownSize, shownCells, placeOf}
 use Rattle.book.specs.Filling.{fields-long, zeros-are}
 use Rattle.book.specs.Looking.{nodes-low}
 
@@ -24,20 +23,16 @@ pub record Placed (ws : List ℕ) (k r : ℕ) : Type 0 where
   pub low : r < rulesLimit
   pub used : taken (view ws) r ≡ true
   pub has : number (view ws) r ≡ k
-  pub rule-is : rulesIn ws k ≡ rule (term (view ws) r)
+  pub rule-is : rulesIn ws k ≡ rule (ruleAt (view ws) r)
 
-of-both : (a b : Bool) → both a b ≡ true → (a ≡ true) × (b ≡ true)
-of-both true b e = (refl, e)
-of-both false b e = absurd (true≢false e refl)
-
-module _ (ws : List ℕ) (k r : ℕ) (e : r ≡ pickPlace (heldAt (view ws) k) (view ws .place k)) where
+module _ (ws : List ℕ) (k r : ℕ) (e : r ≡ placeOf (view ws) k) where
   pub not-placed : r ≡ rulesLimit → rulesIn ws k ≡ nothing
   not-placed h = go (heldAt (view ws) k) refl
     where
       go : (b : Bool) → heldAt (view ws) k ≡ b → rulesIn ws k ≡ nothing
-      go false q = ap (λ (b : Bool). pickHeld b (rule (term (view ws) (view ws .place k))) nothing) q
+      go false q = ap (λ (b : Bool). pick b (rule (ruleAt (view ws) (view ws .place k))) nothing) q
       go true q =
-          let p : r ≡ view ws .place k = e ∙ ap (λ (b : Bool). pickPlace b (view ws .place k)) q in
+          let p : r ≡ view ws .place k = e ∙ ap (λ (b : Bool). pick b (view ws .place k) rulesLimit) q in
           let l = ltb-true (view ws .place k) rulesLimit (of-both (ltb (view ws .place k) rulesLimit) _ q .0) in
           absurd (omega (arith, p, l, h))
 
@@ -45,16 +40,16 @@ module _ (ws : List ℕ) (k r : ℕ) (e : r ≡ pickPlace (heldAt (view ws) k) (
   placed n = go (heldAt (view ws) k) refl
     where
       go : (b : Bool) → heldAt (view ws) k ≡ b → Placed ws k r
-      go false q = absurd (n (e ∙ ap (λ (b : Bool). pickPlace b (view ws .place k)) q))
+      go false q = absurd (n (e ∙ ap (λ (b : Bool). pick b (view ws .place k) rulesLimit) q))
       go true q =
-          let p : view ws .place k ≡ r = sym (e ∙ ap (λ (b : Bool). pickPlace b (view ws .place k)) q) in
+          let p : view ws .place k ≡ r = sym (e ∙ ap (λ (b : Bool). pick b (view ws .place k) rulesLimit) q) in
           let a = of-both (ltb (view ws .place k) rulesLimit) (both (taken (view ws) (view ws .place k)) (eqb (number (view ws) (view ws .place k)) k)) q in
           let b = of-both (taken (view ws) (view ws .place k)) (eqb (number (view ws) (view ws .place k)) k) (a .1) in
           record {
             low = subst (λ (z : ℕ). z < rulesLimit) p (ltb-true (view ws .place k) rulesLimit (a .0));
             used = subst (λ (z : ℕ). taken (view ws) z ≡ true) p (b .0);
             has = subst (λ (z : ℕ). number (view ws) z ≡ k) p (eqb-true (number (view ws) (view ws .place k)) k (b .1));
-            rule-is = ap₂ (λ (x : Bool) (z : ℕ). pickHeld x (rule (term (view ws) z)) nothing) q p;
+            rule-is = ap₂ (λ (x : Bool) (z : ℕ). pick x (rule (ruleAt (view ws) z)) nothing) q p;
           }
 
 -- ---- showing

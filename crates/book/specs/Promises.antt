@@ -1,14 +1,15 @@
 -- What the book's functions promise.
 use mathlib.Core.Path.{_≡_}
 use mathlib.Core.List.{List, _++_}
-use mathlib.Core.Bool.{Bool, true, false}
+use mathlib.Core.Bool.{Bool}
 use Prim.Native.Nat.{ℕ, _-_}
 use lib.ListN.{length, replicate}
+use Rattle.deciding.specs.Deciding.{pick}
 use Rattle.layout.specs.Layout.{rulesLimit, bookWords}
 use Rattle.term.specs.Reading.{readTerm}
 use Rattle.term.specs.declared.reading.Reading.the-variants.{Whole}
-use Rattle.book.specs.Rules.{Held, nothing, rule, isHeld, ruleCount, nodesOf, after}
-use Rattle.book.specs.Memory.{rulesIn}
+use Rattle.book.specs.Rules.{Held, nothing, rule, isHeld, ruleCount, nodesOf}
+use Rattle.book.specs.Memory.{View, heldAt, rulesIn}
 
 -- A term, and nothing after it.
 abbrev pub IsTerm : List ℕ → Type 0
@@ -22,11 +23,11 @@ pub record Empties (ws ws′ : List ℕ) (r : ℕ) : Type 0 where
 -- What stands under a number: whether there is a rule, its length, and its cells with zeros after them.
 abbrev pub shownSize : Held → ℕ
 shownSize nothing = 0
-shownSize (rule t) = length t
+shownSize (rule r) = length (r .term)
 
 abbrev pub shownCells : Held → List ℕ
 shownCells nothing = replicate 32 0
-shownCells (rule t) = t ++ replicate (32 - length t) 0
+shownCells (rule r) = r .term ++ replicate (32 - length (r .term)) 0
 
 pub record Shows (ws : List ℕ) (k : ℕ) (held : Bool) (size : ℕ) (cells : List ℕ) : Type 0 where
   pub is-held : held ≡ isHeld (rulesIn ws k)
@@ -39,6 +40,5 @@ pub record Counts (ws : List ℕ) (rules nodes : ℕ) : Type 0 where
   pub nodes-are : nodes ≡ nodesOf (rulesIn ws)
 
 -- The place of a number's record, or 512 where the number is not held.
-abbrev pub pickPlace : Bool → ℕ → ℕ
-pickPlace true r = r
-pickPlace false r = rulesLimit
+abbrev pub placeOf : View → ℕ → ℕ
+placeOf v k = pick (heldAt v k) (v .place k) rulesLimit

@@ -4,6 +4,7 @@ use mathlib.Core.Bool.{Bool, true, false}
 use Prim.Native.Nat.{ℕ, zero, suc, _+_}
 use lib.Dec.{eqb, leb, ltb}
 use lib.ListN.{length}
+use Rattle.deciding.specs.Deciding.{pick}
 use Rattle.layout.specs.Layout.{ruleNumbers, nodesLimit, rulesLimit}
 use Rattle.term.specs.Beginnings.{nodeCount}
 pub use Rattle.book.specs.declared.Added.{Added}
@@ -11,10 +12,18 @@ pub use Rattle.book.specs.declared.Added.the-variants.{Taken, HeldAlread
 pub use Rattle.book.specs.declared.Removed.{Removed}
 pub use Rattle.book.specs.declared.Removed.the-variants.{Gone, NotHeld}
 
--- Under a number there is nothing, or a rule with its term, variables kept.
+-- A rule: its term, variables kept. What more a rule has is a field more.
+pub record Rule : Type 0 where
+  pub term : List ℕ
+
+-- A rule as kind 0 adds it.
+abbrev pub plain : List ℕ → Rule
+plain term = record { term = term }
+
+-- Under a number there is nothing, or a rule.
 pub data Held : Type 0 where
   nothing : Held
-  rule : (term : List ℕ) → Held
+  rule : (r : Rule) → Held
 
 -- A set of rules: each number 0 to 4,095 has at most one.
 abbrev pub Rules : Type 0
@@ -22,25 +31,21 @@ Rules = ℕ → Held
 
 abbrev pub isHeld : Held → Bool
 isHeld nothing = false
-isHeld (rule term) = true
+isHeld (rule r) = true
 
 abbrev pub termsOf : Held → List (List ℕ)
 termsOf nothing = []
-termsOf (rule term) = term ∷ []
-
-abbrev pub pickHeld : Bool → Held → Held → Held
-pickHeld true a b = a
-pickHeld false a b = b
+termsOf (rule r) = r .term ∷ []
 
 -- No rules; one more; one less.
 abbrev pub noRules : Rules
 noRules k = nothing
 
-abbrev pub withRule : Rules → ℕ → List ℕ → Rules
-withRule rules k term j = pickHeld (eqb j k) (rule term) (rules j)
+abbrev pub withRule : Rules → ℕ → Rule → Rules
+withRule rules k r j = pick (eqb j k) (rule r) (rules j)
 
 abbrev pub withoutRule : Rules → ℕ → Rules
-withoutRule rules k j = pickHeld (eqb j k) nothing (rules j)
+withoutRule rules k j = pick (eqb j k) nothing (rules j)
 
 -- What f gives for each of n numbers from k on, ascending.
 unfoldable pub each : {A : Type 0} → (ℕ → List A) → (n k : ℕ) → List A
@@ -64,28 +69,24 @@ addRefusal HeldAlready = 6
 addRefusal BookFull = 8
 addRefusal NoNodes = 9
 
-abbrev pub pickAdded : Bool → Added → Added → Added
-pickAdded true a b = a
-pickAdded false a b = b
-
 -- An add is judged in the order 6, 8, 9: number already held; 512 rules held; node count with the rule above 4,096.
-abbrev pub judged : Rules → ℕ → List ℕ → Added
-judged rules k term =
-    pickAdded (isHeld (rules k)) HeldAlready
-    (pickAdded (leb rulesLimit (ruleCount rules)) BookFull
-    (pickAdded (ltb nodesLimit (nodesOf (withRule rules k term))) NoNodes Taken))
+abbrev pub judged : Rules → ℕ → Rule → Added
+judged rules k r =
+    pick (isHeld (rules k)) HeldAlready
+    (pick (leb rulesLimit (ruleCount rules)) BookFull
+    (pick (ltb nodesLimit (nodesOf (withRule rules k r))) NoNodes Taken))
 
 -- The rules after an add.
-abbrev pub after : Added → Rules → ℕ → List ℕ → Rules
-after Taken rules k term = withRule rules k term
-after HeldAlready rules k term = rules
-after BookFull rules k term = rules
-after NoNodes rules k term = rules
+abbrev pub after : Added → Rules → ℕ → Rule → Rules
+after Taken rules k r = withRule rules k r
+after HeldAlready rules k r = rules
+after BookFull rules k r = rules
+after NoNodes rules k r = rules
 
 -- A remove of what stands under a number, and the refusal number of its answer.
 abbrev pub removal : Held → Removed
 removal nothing = NotHeld
-removal (rule t) = Gone
+removal (rule r) = Gone
 
 abbrev pub removeRefusal : Removed → ℕ
 removeRefusal Gone = 0

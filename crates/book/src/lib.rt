@@ -14,8 +14,8 @@ ghost use mathlib.Core.Path.{_≡_};
 ghost use Prim.Native.Nat.{_<_};
 ghost use lib.ListN.{length};
 ghost use Rattle.layout.specs.Layout.{ruleNumbers, bookWords};
-ghost use Rattle.book.specs.Memory.{Passing, heldAt, view};
-ghost use Rattle.book.specs.Promises.{Empties, Shows, Counts, pickPlace};
+ghost use Rattle.book.specs.Memory.{Passing, view};
+ghost use Rattle.book.specs.Promises.{Empties, Shows, Counts, placeOf};
 
 // What an add answers: the rule is taken; its number is held already (6); 512 rules are held (8); there would be more
 // than 4,096 nodes (9).
@@ -89,7 +89,7 @@ pub fn size_of(x: u16) -> usize
 // The place of a number's record, or 512 where the number is not held.
 pub fn place_of(m: &[u64], number: u16) -> usize
     requires { ⌜ (length (now m) ≡ bookWords) × (number < ruleNumbers) ⌝ }
-    ensures { λ r. ⌜ r ≡ pickPlace (heldAt (view (now (m .entry))) number) (view (now (m .entry)) .place number) ⌝ }
+    ensures { λ r. ⌜ r ≡ placeOf (view (now (m .entry))) number ⌝ }
 {
     let r = size_of(bits::field(&m[layout::PLACES_AT..layout::PLACES_END], size_of(number)));
     if Book::RULES <= r {

@@ -10,6 +10,7 @@ use borrow.Author.Tests.{lt-ltb, le-ltb, le-leb, lt-leb, eq-eqb, ne-eqb}
 use lib.Dec.{eqb, ltb, leb}
 use lib.ListN.{length, getD, take, drop, length-take, length-drop, length-map, take-append-drop}
 use lib.Seq.{take-at, take-length}
+use Rattle.deciding.specs.Deciding.{pick}
 use Rattle.layout.specs.Layout.{ruleNumbers, ruleMapWords, nodesLimit, rulesLimit, ruleMapAt, lastLink, treeWords, bookWords}
 use Rattle.bits.specs.Packed.{bits, First}
 use Rattle.bits.specs.Laws.{length-bits, bit-low}
@@ -27,7 +28,8 @@ use Rattle.tree.specs.Promises.{Sound, Planted, Hangable, Hung}
 use Rattle.tree.specs.Partly.{Partly, grown-rules}
 use Rattle.tree.specs.Plant.{planted-partly, planted-full, planted-fits, no-rule}
 use Rattle.tree.specs.Leaves.{Leaf, bases, ends, Hanging}
-use Rattle.book.specs.Rules.{Held, nothing, rule, isHeld, pickHeld, withRule, terms, ruleCount, nodesOf, judged, pickAdded}
+use Rattle.book.specs.Rules.{Rule, Held, nothing, rule, Rules, isHeld, withRule, terms, ruleCount, nodesOf, judged}
+use Rattle.book.specs.declared.Added.{Added as Answer}
 use Rattle.book.specs.declared.Added.the-variants as answer
 use Rattle.book.specs.Gathered.{Standing, terms-standing, rule-inj, not-rule}
 use Rattle.book.specs.Memory.{View, view, taken, number, term, form, formOf, leaf, leaves, Passing, rulesIn}
@@ -65,11 +67,22 @@ grown-lowest (more {m = m} {m′ = m′} {n = x} s g lo so o k) n f u j h = by (
     by (yes e) ih = ap (m′ .used) e ∙ k .now
     by (no d) ih = k .kept .used j d ∙ was (ℕ-discrete n x) ih
 
-module _ (ws : List ℕ) (k : ℕ) (t : List ℕ) (p : Passing ws) where
+module _ (ws : List ℕ) (k : ℕ) (it : Rule) (p : Passing ws) where
+  abbrev t : List ℕ
+  t = it .term
+
+  -- the rules with it
+  abbrev rules′ : Rules
+  rules′ = withRule (rulesIn ws) k it
+
+  -- how an add is judged past 6
+  abbrev past-held : Bool → Answer
+  past-held full = pick full answer.BookFull (pick (ltb nodesLimit (nodesOf rules′)) answer.NoNodes answer.Taken)
+
   -- 6
-  pub held-already : (r : ℕ) → Placed ws k r → Adds ws ws k t answer.HeldAlready
+  pub held-already : (r : ℕ) → Placed ws k r → Adds ws ws k it answer.HeldAlready
   held-already r at = record {
-    answer = sym (ap (λ (h : Held). pickAdded (isHeld h) answer.HeldAlready (pickAdded (leb rulesLimit (ruleCount (rulesIn ws))) answer.BookFull (pickAdded (ltb nodesLimit (nodesOf (withRule (rulesIn ws) k t))) answer.NoNodes answer.Taken))) (at .rule-is));
+    answer = sym (ap (λ (h : Held). pick (isHeld h) answer.HeldAlready (past-held (leb rulesLimit (ruleCount (rulesIn ws))))) (at .rule-is));
     passes = p;
     rules = refl;
     nodes = no-change (view ws .tree);
@@ -95,11 +108,10 @@ module _ (ws : List ℕ) (k : ℕ) (t : List ℕ) (p : Passing ws) where
 
   module _ (new : rulesIn ws k ≡ nothing) (r : ℕ) (f : First 0 (bits (take ruleMapWords (drop ruleMapAt ws))) 0 r) where
     -- 8
-    judge-full : (b : Bool) → leb rulesLimit (ruleCount (rulesIn ws)) ≡ b → judged (rulesIn ws) k t ≡ pickAdded b answer.BookFull (pickAdded (ltb nodesLimit (nodesOf (withRule (rulesIn ws) k t))) answer.NoNodes answer.Taken)
-    judge-full b e =
-        ap₂ (λ (h : Held) (x : Bool). pickAdded (isHeld h) answer.HeldAlready (pickAdded x answer.BookFull (pickAdded (ltb nodesLimit (nodesOf (withRule (rulesIn ws) k t))) answer.NoNodes answer.Taken))) new e
+    judge-full : (b : Bool) → leb rulesLimit (ruleCount (rulesIn ws)) ≡ b → judged (rulesIn ws) k it ≡ past-held b
+    judge-full b e = ap₂ (λ (h : Held) (x : Bool). pick (isHeld h) answer.HeldAlready (past-held x)) new e
 
-    pub book-full : r ≡ rulesLimit → Adds ws ws k t answer.BookFull
+    pub book-full : r ≡ rulesLimit → Adds ws ws k it answer.BookFull
     book-full e = record { answer = sym (judge-full true (le-leb rulesLimit (ruleCount (rulesIn ws)) (omega (arith, count-is, all)))); passes = p; rules = refl; nodes = no-change (view ws .tree); same = λ _. refl }
       where
         all : tally (taken (view ws)) rulesLimit ≡ rulesLimit
@@ -148,40 +160,47 @@ module _ (ws : List ℕ) (k : ℕ) (t : List ℕ) (p : Passing ws) where
 
         -- the forms with the new one
         forms : List (List ℕ)
-        forms = map formOf (terms (withRule (rulesIn ws) k t))
+        forms = map formOf (terms rules′)
 
         module _ (lk : k < ruleNumbers) where
-          with-here : withRule (rulesIn ws) k t k ≡ rule t
-          with-here = ap (λ (b : Bool). pickHeld b (rule t) (rulesIn ws k)) (eq-eqb k k refl)
+          with-here : rules′ k ≡ rule it
+          with-here = ap (λ (b : Bool). pick b (rule it) (rulesIn ws k)) (eq-eqb k k refl)
 
-          with-other : (j : ℕ) → ¬ (j ≡ k) → withRule (rulesIn ws) k t j ≡ rulesIn ws j
-          with-other j d = ap (λ (b : Bool). pickHeld b (rule t) (rulesIn ws j)) (ne-eqb j k d)
+          with-other : (j : ℕ) → ¬ (j ≡ k) → rules′ j ≡ rulesIn ws j
+          with-other j d = ap (λ (b : Bool). pick b (rule it) (rulesIn ws j)) (ne-eqb j k d)
 
           of : (f : List ℕ) → List·Memᴰ f forms → (f ≡ formOf t) ⊎ List·Memᴰ f (bases (leaves (view ws)))
           unfolding forms
-          of f i = go (terms-standing (withRule (rulesIn ws) k t) (q .0) .0 (q .1))
+          of f i = go (terms-standing rules′ (q .0) .0 (q .1))
             where
-              q : (s : List ℕ) × List·Memᴰ s (terms (withRule (rulesIn ws) k t)) × (formOf s ≡ f)
-              q = Memᴰ·of-map formOf (terms (withRule (rulesIn ws) k t)) i
+              q : (s : List ℕ) × List·Memᴰ s (terms rules′) × (formOf s ≡ f)
+              q = Memᴰ·of-map formOf (terms rules′) i
 
-              go : Standing (withRule (rulesIn ws) k t) (q .0) → (f ≡ formOf t) ⊎ List·Memᴰ f (bases (leaves (view ws)))
+              go : Standing rules′ (q .0) → (f ≡ formOf t) ⊎ List·Memᴰ f (bases (leaves (view ws)))
               go s = by (ℕ-discrete (s .number) k)
                 where
                   by : Dec (s .number ≡ k) → (f ≡ formOf t) ⊎ List·Memᴰ f (bases (leaves (view ws)))
-                  by (yes d) = inl (sym (q .2) ∙ ap formOf (rule-inj (sym (s .is) ∙ ap (withRule (rulesIn ws) k t) d ∙ with-here)))
-                  by (no d) = inr (base-forms (view ws) low (p .right) f .1 (Memᴰ·cast (sym (q .2)) (Memᴰ·map formOf (terms-standing (rulesIn ws) (q .0) .1 (record { number = s .number; low = s .low; is = sym (with-other (s .number) d) ∙ s .is })))))
+                  by (yes d) = inl (sym (q .2) ∙ ap formOf (sym (s .term-is) ∙ ap (λ (x : Rule). x .term) (rule-inj (sym (s .is) ∙ ap rules′ d ∙ with-here))))
+                  by (no d) = inr (base-forms (view ws) low (p .right) f .1 (Memᴰ·cast (sym (q .2)) (Memᴰ·map formOf (terms-standing (rulesIn ws) (q .0) .1
+                      (record { number = s .number; low = s .low; its = s .its; is = sym (with-other (s .number) d) ∙ s .is; term-is = s .term-is })))))
 
           kept : (f : List ℕ) → List·Memᴰ f (bases (leaves (view ws))) → List·Memᴰ f forms
           unfolding forms
           kept f i =
               let q = Memᴰ·of-map formOf (terms (rulesIn ws)) (base-forms (view ws) low (p .right) f .0 i) in
               let s = terms-standing (rulesIn ws) (q .0) .0 (q .1) in
-              Memᴰ·cast (sym (q .2)) (Memᴰ·map formOf (terms-standing (withRule (rulesIn ws) k t) (q .0) .1
-              (record { number = s .number; low = s .low; is = with-other (s .number) (λ d. not-rule (sym new ∙ ap (rulesIn ws) (sym d) ∙ s .is)) ∙ s .is })))
+              Memᴰ·cast (sym (q .2)) (Memᴰ·map formOf (terms-standing rules′ (q .0) .1
+              (record {
+                number = s .number;
+                low = s .low;
+                its = s .its;
+                is = with-other (s .number) (λ d. not-rule (sym new ∙ ap (rulesIn ws) (sym d) ∙ s .is)) ∙ s .is;
+                term-is = s .term-is;
+              })))
 
           joined : List·Memᴰ (formOf t) forms
           unfolding forms
-          joined = Memᴰ·map formOf (terms-standing (withRule (rulesIn ws) k t) t .1 (record { number = k; low = lk; is = with-here }))
+          joined = Memᴰ·map formOf (terms-standing rules′ t .1 (record { number = k; low = lk; its = it; is = with-here; term-is = refl }))
 
           -- planting
           pub sound : Sound (take treeWords ws)
@@ -191,26 +210,33 @@ module _ (ws : List ℕ) (k : ℕ) (t : List ℕ) (p : Passing ws) where
             planted : Planted (take treeWords ws) t₁ (formOf t) l
             planted = subst (λ (f : List ℕ). Planted (take treeWords ws) t₁ f l) ef pl
 
-            nodes-is : nodesOf (withRule (rulesIn ws) k t) ≡ Rattle.tree.specs.NodeCount.node-count forms
+            nodes-is : nodesOf rules′ ≡ Rattle.tree.specs.NodeCount.node-count forms
             unfolding forms
-            nodes-is = count-forms (terms (withRule (rulesIn ws) k t))
+            nodes-is = count-forms (terms rules′)
 
             -- 9
-            pub no-nodes : l ≡ 0 → Adds ws (t₁ ++ drop treeWords ws) k t answer.NoNodes
+            pub no-nodes : l ≡ 0 → Adds ws (t₁ ++ drop treeWords ws) k it answer.NoNodes
             no-nodes e = record {
-              answer = sym (judge-full false not-full ∙ ap (λ (b : Bool). pickAdded b answer.NoNodes answer.Taken) (lt-ltb nodesLimit (nodesOf (withRule (rulesIn ws) k t)) (subst (λ (n : ℕ). nodesLimit < n) (sym nodes-is) (planted-full (take treeWords ws) t₁ (formOf t) l planted (leaves (view ws)) hang free-old forms of kept joined e))));
+              answer = sym (judge-full false not-full ∙ ap (λ (b : Bool). pick b answer.NoNodes answer.Taken) (lt-ltb nodesLimit (nodesOf rules′) too-many));
               passes = subst Passing (sym same) p;
               rules = ap rulesIn same;
               nodes = subst (λ (x : List ℕ). TakesLowest (view ws .tree) (view x .tree)) (sym same) (no-change (view ws .tree));
               same = λ _. same;
             }
               where
+                too-many : nodesLimit < nodesOf rules′
+                too-many = subst (λ (n : ℕ). nodesLimit < n) (sym nodes-is)
+                    (planted-full (take treeWords ws) t₁ (formOf t) l planted (leaves (view ws)) hang free-old forms of kept joined e)
+
                 same : t₁ ++ drop treeWords ws ≡ ws
                 same = ap (λ (x : List ℕ). x ++ drop treeWords ws) (planted .full e .0) ∙ take-append-drop treeWords ws
 
             module _ (nz : ¬ (l ≡ 0)) where
-              judge-taken : judged (rulesIn ws) k t ≡ answer.Taken
-              judge-taken = judge-full false not-full ∙ ap (λ (b : Bool). pickAdded b answer.NoNodes answer.Taken) (le-ltb nodesLimit (nodesOf (withRule (rulesIn ws) k t)) (subst (λ (n : ℕ). n ≤ nodesLimit) (sym nodes-is) (planted-fits (take treeWords ws) t₁ (formOf t) l planted (leaves (view ws)) hang free-old forms of kept joined nz)))
+              judge-taken : judged (rulesIn ws) k it ≡ answer.Taken
+              judge-taken =
+                  judge-full false not-full ∙ ap (λ (b : Bool). pick b answer.NoNodes answer.Taken)
+                  (le-ltb nodesLimit (nodesOf rules′) (subst (λ (n : ℕ). n ≤ nodesLimit) (sym nodes-is)
+                  (planted-fits (take treeWords ws) t₁ (formOf t) l planted (leaves (view ws)) hang free-old forms of kept joined nz)))
 
               partly : Partly (shape t₁) (ends (leaves (view ws))) l (reverse (formOf t))
               partly = planted-partly (take treeWords ws) t₁ (formOf t) l planted nz (ends (leaves (view ws))) (p .right .tree)
@@ -229,11 +255,12 @@ module _ (ws : List ℕ) (k : ℕ) (t : List ℕ) (p : Passing ws) where
               }
 
               -- the rule is taken
-              pub taken-now : (t₂ ws₂ ws₃ : List ℕ) (ws₁ : List ℕ) → TreeOnly ws ws₁ (shape t₁) → Hung (shape t₁) (shape t₂) l r k → TreeOnly ws₁ ws₂ (shape t₂) → Stores (view ws₂) (view ws₃) k r t → length ws₃ ≡ bookWords → Adds ws ws₃ k t answer.Taken
+              pub taken-now : (t₂ ws₂ ws₃ : List ℕ) (ws₁ : List ℕ) → TreeOnly ws ws₁ (shape t₁) → Hung (shape t₁) (shape t₂) l r k → TreeOnly ws₁ ws₂ (shape t₂)
+                  → Stores (view ws₂) (view ws₃) k r it → length ws₃ ≡ bookWords → Adds ws ws₃ k it answer.Taken
               taken-now t₂ ws₂ ws₃ ws₁ o₁ hung o₂ st size = record {
                 answer = sym judge-taken;
-                passes = record { size = size; right = added-right (view ws) (view ws₃) k r l t (shape t₁) low (p .right) added };
-                rules = fun-ext (λ j. added-rules (view ws) (view ws₃) k r l t (shape t₁) low (p .right) added j);
+                passes = record { size = size; right = added-right (view ws) (view ws₃) k r l it (shape t₁) low (p .right) added };
+                rules = fun-ext (λ j. added-rules (view ws) (view ws₃) k r l it (shape t₁) low (p .right) added j);
                 nodes = record { kept = λ n h u. still n h ∙ grown-kept (planted .grown nz) n u; lowest = λ n h f u j b. still j (omega arith) ∙ grown-lowest (planted .grown nz) n f (sym (still n h) ∙ u) j b };
                 same = λ n. absurd (n refl);
               }
@@ -242,7 +269,7 @@ module _ (ws : List ℕ) (k : ℕ) (t : List ℕ) (p : Passing ws) where
                   still : (n : ℕ) → n < nodesLimit → view ws₃ .tree .used n ≡ shape t₁ .used n
                   still n h = ap (λ (m : Shape). m .used n) (st .tree ∙ o₂ .tree) ∙ hung .links .kept .used n (λ e. omega arith)
 
-                  added : Added (view ws) (view ws₃) k r l t (shape t₁)
+                  added : Added (view ws) (view ws₃) k r l it (shape t₁)
                   added = record {
                     low = lk;
                     new = new;

@@ -3,17 +3,18 @@ use mathlib.Core.Path.{_≡_, refl, sym, ap, _∙_, subst, fun-ext}
 use mathlib.Core.Logic.{inr}
 use mathlib.Core.List.{List, _++_}
 use mathlib.Core.Bool.{Bool, true, false}
-use Prim.Native.Nat.{ℕ, suc, _+_, _-_, _*_}
+use Prim.Native.Nat.{ℕ, suc, _+_, _*_}
 use native.Mathlib.Omega.{arith}
 use native.Mathlib.Decide.{ℕ-discrete}
 use borrow.Author.Tests.{eq-eqb, ne-eqb}
 use lib.ListN.{length, getD, take, drop}
+use Rattle.deciding.specs.Deciding.{pick}
 use Rattle.layout.specs.Layout.{nodesLimit, treeWords, placesAt, placeWords, termWords, recordWords, recordsAt, termsAt, bookWords}
 use Rattle.bits.specs.Packed.{fields}
 use Rattle.term.specs.Counting.{true≢false}
 use Rattle.tree.specs.Words.{shape}
 use Rattle.tree.specs.Shape.{Shape}
-use Rattle.book.specs.Rules.{nothing, rule, pickHeld, withoutRule, removal}
+use Rattle.book.specs.Rules.{nothing, withoutRule, removal}
 use Rattle.book.specs.Memory.{view, Passing, rulesIn}
 use Rattle.book.specs.declared.Removed.the-variants.{Gone, NotHeld}
 use Rattle.change.specs.Promises.{Removes}
@@ -30,8 +31,8 @@ pub nothing-removed : (ws : List ℕ) (k : ℕ) → Passing ws → rulesIn ws k 
 nothing-removed ws k p e = record { answer = sym (ap removal e); passes = p; rules = fun-ext (λ j. go j (ℕ-discrete j k)); nodes = record { were = λ n l u. u }; same = λ _. refl }
   where
     go : (j : ℕ) → Dec (j ≡ k) → rulesIn ws j ≡ withoutRule (rulesIn ws) k j
-    go j (yes q) = ap (rulesIn ws) q ∙ e ∙ sym (ap (λ (b : Bool). pickHeld b nothing (rulesIn ws j)) (eq-eqb j k q))
-    go j (no q) = sym (ap (λ (b : Bool). pickHeld b nothing (rulesIn ws j)) (ne-eqb j k q))
+    go j (yes q) = ap (rulesIn ws) q ∙ e ∙ sym (ap (λ (b : Bool). pick b nothing (rulesIn ws j)) (eq-eqb j k q))
+    go j (no q) = sym (ap (λ (b : Bool). pick b nothing (rulesIn ws j)) (ne-eqb j k q))
 
 -- ---- a changed tree
 

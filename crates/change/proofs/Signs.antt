@@ -11,6 +11,7 @@ use Rattle.bits.specs.Packed.{fields}
 use Rattle.tree.specs.Words.{shape}
 use Rattle.tree.specs.Shape.{Shape}
 use Rattle.book.specs.declared.Added.the-variants.{Taken}
+use Rattle.book.specs.Rules.{Rule}
 use Rattle.book.specs.Memory.{View, view, rulesOf, Right}
 use Rattle.change.specs.Promises.{Adds, TakesLowest}
 use Rattle.book.specs.Parts.{Elsewhere, window, one-part}
@@ -30,8 +31,8 @@ pub twice : {ws ws₁ ws₂ : List ℕ} {a k : ℕ} → Elsewhere ws ws₁ a k �
 twice e f = record { long = f .long ∙ e .long; kept = λ i h. f .kept i h ∙ e .kept i h }
 
 -- an add that was taken is none the less one with other signs
-pub with-signs : {ws ws₁ ws₂ : List ℕ} {k : ℕ} {t : List ℕ} → Adds ws ws₁ k t Taken → view ws₂ ≡ view ws₁ → length ws₂ ≡ length ws₁ → Adds ws ws₂ k t Taken
-with-signs {ws} {ws₁} {ws₂} {k} {t} a e l = record {
+pub with-signs : {ws ws₁ ws₂ : List ℕ} {k : ℕ} {it : Rule} → Adds ws ws₁ k it Taken → view ws₂ ≡ view ws₁ → length ws₂ ≡ length ws₁ → Adds ws ws₂ k it Taken
+with-signs {ws} {ws₁} {ws₂} {k} {it} a e l = record {
   answer = a .answer;
   passes = record { size = l ∙ a .passes .size; right = subst Right (sym e) (a .passes .right) };
   rules = ap rulesOf e ∙ a .rules;

@@ -11,6 +11,7 @@ use borrow.Rule.Slice.PartMut.{putMid}
 use Rattle.layout.specs.Layout.{ruleNumbers, rulesLimit, treeWords, placesAt, placeWords, termWords, recordWords, recordsAt, termsAt, bookWords}
 use Rattle.bits.specs.Packed.{fields}
 use Rattle.tree.specs.Words.{shape}
+use Rattle.book.specs.Rules.{Rule}
 use Rattle.book.specs.Memory.{view}
 use Rattle.change.specs.Promises.{Stores}
 use Rattle.book.specs.Filling.{fields-long}
@@ -31,9 +32,9 @@ sides j r d = go (decLt j r)
     go (yes h) = inl h
     go (no h) = inr (omega arith)
 
-module _ (ws p q : List ℕ) (k r n : ℕ) (t : List ℕ) (size : length ws ≡ bookWords) (hr : r < rulesLimit) (hk : k < ruleNumbers)
-    (lp : length p ≡ placeWords) (fp : fields p ≡ set (fields (take placeWords (drop placesAt ws))) k r) (ln : n ≡ length t) (w : ℕ) (ew : w ≡ termWords)
-    (lq : length q ≡ termWords) (fq : fields q ≡ t ++ replicate (32 - length t) 0) where
+module _ (ws p q : List ℕ) (k r n : ℕ) (it : Rule) (size : length ws ≡ bookWords) (hr : r < rulesLimit) (hk : k < ruleNumbers)
+    (lp : length p ≡ placeWords) (fp : fields p ≡ set (fields (take placeWords (drop placesAt ws))) k r) (ln : n ≡ length (it .term)) (w : ℕ) (ew : w ≡ termWords)
+    (lq : length q ≡ termWords) (fq : fields q ≡ it .term ++ replicate (32 - length (it .term)) 0) where
   abbrev pub ws₁ : List ℕ
   ws₁ = putMid placesAt placeWords ws p
 
@@ -87,7 +88,7 @@ module _ (ws p q : List ℕ) (k r n : ℕ) (t : List ℕ) (size : length ws ≡ 
   tree : take treeWords (putMid at w ws₂ q) ≡ take treeWords ws
   tree = window three 0 treeWords (inl (omega arith)) ∙ window two 0 treeWords (inl (omega arith)) ∙ window one 0 treeWords (inl (omega arith))
 
-  size-is : getD (putMid at w ws₂ q) (recordsAt + recordWords * r) 0 ≡ length t
+  size-is : getD (putMid at w ws₂ q) (recordsAt + recordWords * r) 0 ≡ length (it .term)
   size-is =
       three .kept (recordsAt + recordWords * r) (inl (omega arith))
       ∙ ap (λ (z : ℕ). getD ws₂ z 0) e ∙ getD-set-same ws₁ (at - 1) n 0 (omega (arith, one .long)) ∙ ln
@@ -101,7 +102,7 @@ module _ (ws p q : List ℕ) (k r n : ℕ) (t : List ℕ) (size : length ws ≡ 
   places-long : k < length (fields (take placeWords (drop placesAt ws)))
   places-long = omega (arith, fields-long (take placeWords (drop placesAt ws)), length-take placeWords (drop placesAt ws), length-drop placesAt ws)
 
-  pub stored : Stores (view ws) (view (putMid at w ws₂ q)) k r t
+  pub stored : Stores (view ws) (view (putMid at w ws₂ q)) k r it
   stored = record {
     tree = ap shape tree;
     to-place = ap (λ (z : List ℕ). getD (fields z) k 0) places ∙ ap (λ (z : List ℕ). getD z k 0) fp ∙ getD-set-same (fields (take placeWords (drop placesAt ws))) k r 0 places-long;

@@ -10,8 +10,8 @@ use borrow.Author.Tests.{lt-ltb, eq-eqb, ne-eqb}
 use lib.Dec.{eqb, ltb}
 use lib.ListN.{length, getD, take, replicate}
 use lib.Seq.{take-at, getD-append-add, take-length}
+use Rattle.deciding.specs.Deciding.{pick, both, both-false}
 use Rattle.layout.specs.Layout.{ruleNumbers, nodesLimit, rulesLimit, lastLink}
-use Rattle.term.specs.Beginnings.{both}
 use Rattle.term.specs.Counting.{true≢false}
 use Rattle.term.specs.Reading.{readTerm}
 use Rattle.term.specs.declared.reading.Reading.the-variants.{Whole}
@@ -24,8 +24,9 @@ use Rattle.tree.specs.Promises.{Hung}
 use Rattle.tree.specs.Partly.{Partly, Left, link-partly, ended-new, left-of, trimmed-passes, trimmed-kept, trimmed-gone, passes-same}
 use Rattle.tree.specs.Tallies.{listed}
 use Rattle.tree.specs.Leaves.{endOf, ends, Hanging, rows-free}
-use Rattle.book.specs.Rules.{Held, nothing, rule, pickHeld, withRule, withoutRule}
-use Rattle.book.specs.Memory.{View, taken, number, term, form, formOf, leaf, leaves, rulesOf, Recorded, Right}
+use Rattle.book.specs.Rules.{Rule, Held, nothing, rule, withRule, withoutRule}
+use Rattle.book.specs.Gathered.{not-rule}
+use Rattle.book.specs.Memory.{View, taken, number, term, ruleAt, form, formOf, leaf, leaves, rulesOf, Recorded, Right}
 use Rattle.book.specs.Holding.{endAt, of-ends, to-ends, hanging, at-holds}
 
 -- What a place says in two views.
@@ -38,6 +39,9 @@ pub record SameAt (v v′ : View) (j : ℕ) : Type 0 where
 module _ {v v′ : View} {j : ℕ} (s : SameAt v v′ j) where
   same-term : term v′ j ≡ term v j
   same-term = ap₂ (λ (n : ℕ) (c : List ℕ). take n c) (s .size) (s .cells)
+
+  same-rule : ruleAt v′ j ≡ ruleAt v j
+  same-rule = ap (λ (t : List ℕ). record { term = t }) same-term
 
   same-end : taken v j ≡ true → endAt v′ j ≡ endAt v j
   same-end u = ap₂ (λ (t : List ℕ) (k : ℕ). endOf (record { slot = j; form = formOf t; number = k })) same-term (s .numbers u)
@@ -52,28 +56,24 @@ module _ {v v′ : View} {j : ℕ} (s : SameAt v v′ j) where
 
 -- a rule is held under k, by what stands at its place
 holding : View → ℕ → ℕ → Held
-holding v k r = pickHeld (both (ltb r rulesLimit) (both (taken v r) (eqb (number v r) k))) (rule (term v r)) nothing
-
-both-false : (a : Bool) → both a false ≡ false
-both-false true = refl
-both-false false = refl
+holding v k r = pick (both (ltb r rulesLimit) (both (taken v r) (eqb (number v r) k))) (rule (ruleAt v r)) nothing
 
 not-taken : (v : View) (k r : ℕ) → taken v r ≡ false → holding v k r ≡ nothing
 unfolding holding
 not-taken v k r e =
-    ap (λ (b : Bool). pickHeld b (rule (term v r)) nothing)
+    ap (λ (b : Bool). pick b (rule (ruleAt v r)) nothing)
     (ap (λ (x : Bool). both (ltb r rulesLimit) (both x (eqb (number v r) k))) e ∙ both-false (ltb r rulesLimit))
 
 not-number : (v : View) (k r : ℕ) → ¬ (number v r ≡ k) → holding v k r ≡ nothing
 unfolding holding
 not-number v k r n =
-    ap (λ (b : Bool). pickHeld b (rule (term v r)) nothing)
+    ap (λ (b : Bool). pick b (rule (ruleAt v r)) nothing)
     (ap (λ (x : Bool). both (ltb r rulesLimit) (both (taken v r) x)) (ne-eqb (number v r) k n) ∙ ap (both (ltb r rulesLimit)) (both-false (taken v r)) ∙ both-false (ltb r rulesLimit))
 
-is-number : (v : View) (k r : ℕ) → r < rulesLimit → taken v r ≡ true → number v r ≡ k → holding v k r ≡ rule (term v r)
+is-number : (v : View) (k r : ℕ) → r < rulesLimit → taken v r ≡ true → number v r ≡ k → holding v k r ≡ rule (ruleAt v r)
 unfolding holding
 is-number v k r l u n =
-    ap (λ (b : Bool). pickHeld b (rule (term v r)) nothing)
+    ap (λ (b : Bool). pick b (rule (ruleAt v r)) nothing)
     (ap (λ (x : Bool). both x (both (taken v r) (eqb (number v r) k))) (lt-ltb r rulesLimit l) ∙ ap (λ (x : Bool). both x (eqb (number v r) k)) u ∙ eq-eqb (number v r) k n)
 
 same-holding : (v v′ : View) (k r : ℕ) → SameAt v v′ r → holding v′ k r ≡ holding v k r
@@ -82,25 +82,25 @@ same-holding v v′ k r s = go (taken v r) refl
   where
     go : (b : Bool) → taken v r ≡ b → holding v′ k r ≡ holding v k r
     go false e = not-taken v′ k r (s .used ∙ e) ∙ sym (not-taken v k r e)
-    go true e = ap₂ (λ (b : Bool) (t : List ℕ). pickHeld (both (ltb r rulesLimit) b) (rule t) nothing) (ap₂ both (s .used) (ap (λ (x : ℕ). eqb x k) (s .numbers e))) (same-term s)
+    go true e = ap₂ (λ (b : Bool) (x : Rule). pick (both (ltb r rulesLimit) b) (rule x) nothing) (ap₂ both (s .used) (ap (λ (x : ℕ). eqb x k) (s .numbers e))) (same-rule s)
 
 -- ---- one rule more
 
--- The number k with the term t comes to the free place r, below the link p of its form's last node in the tree m.
-pub record Added (v v′ : View) (k r p : ℕ) (t : List ℕ) (m : Shape) : Type 0 where
+-- The number k with its rule comes to the free place r, below the link p of its form's last node in the tree m.
+pub record Added (v v′ : View) (k r p : ℕ) (it : Rule) (m : Shape) : Type 0 where
   pub low : k < ruleNumbers
   pub new : rulesOf v k ≡ nothing
   pub place : r < rulesLimit
   pub free : taken v r ≡ false
-  pub whole : readTerm t ≡ Whole (length t)
-  pub partly : Partly m (ends (leaves v)) p (reverse (formOf t))
+  pub whole : readTerm (it .term) ≡ Whole (length (it .term))
+  pub partly : Partly m (ends (leaves v)) p (reverse (formOf (it .term)))
   pub rules-kept : (y : ℕ) → nodesLimit ≤ y → (m .used y ≡ v .tree .used y) × (m .cell y ≡ v .tree .cell y)
   pub hung : Hung m (v′ .tree) p r k
   pub to-place : v′ .place k ≡ r
   pub places : (j : ℕ) → ¬ (j ≡ k) → v′ .place j ≡ v .place j
-  pub size : v′ .size r ≡ length t
+  pub size : v′ .size r ≡ length (it .term)
   pub sizes : (j : ℕ) → ¬ (j ≡ r) → v′ .size j ≡ v .size j
-  pub cells : (n : ℕ) × (v′ .cells r ≡ t ++ replicate n 0)
+  pub cells : (n : ℕ) × (v′ .cells r ≡ it .term ++ replicate n 0)
   pub cellss : (j : ℕ) → ¬ (j ≡ r) → v′ .cells j ≡ v .cells j
 
 zeros : (n i : ℕ) → _≡_ {A = ℕ} (getD (replicate n 0) i 0) 0
@@ -108,7 +108,10 @@ zeros zero i = refl
 zeros (suc n) zero = refl
 zeros (suc n) (suc i) = zeros n i
 
-module _ (v v′ : View) (k r p : ℕ) (t : List ℕ) (m : Shape) (small : (n : ℕ) → Used (v .tree) n → n < lastLink) (right : Right v) (a : Added v v′ k r p t m) where
+module _ (v v′ : View) (k r p : ℕ) (it : Rule) (m : Shape) (small : (n : ℕ) → Used (v .tree) n → n < lastLink) (right : Right v) (a : Added v v′ k r p it m) where
+  abbrev t : List ℕ
+  t = it .term
+
   added-same : (j : ℕ) → ¬ (j ≡ r) → SameAt v v′ j
   added-same j d =
       let e : ¬ (nodesLimit + j ≡ nodesLimit + r) = λ q. d (omega arith) in
@@ -124,15 +127,15 @@ module _ (v v′ : View) (k r p : ℕ) (t : List ℕ) (m : Shape) (small : (n : 
   added-term : term v′ r ≡ t
   added-term = ap₂ (λ (n : ℕ) (c : List ℕ). take n c) (a .size) (a .cells .1) ∙ take-at t (replicate (a .cells .0) 0) (length t) refl
 
+  added-rule : ruleAt v′ r ≡ it
+  added-rule = ap (λ (s : List ℕ). record { term = s }) added-term
+
   -- a rule that is held has another number and another place
   other-place : (j : ℕ) → taken v j ≡ true → ¬ (j ≡ r)
   other-place j u e = true≢false u (ap (taken v) e ∙ a .free)
 
   other-number : (j : ℕ) → taken v j ≡ true → ¬ (number v j ≡ k)
-  other-number j u e = nothing-rule (sym (a .new) ∙ ap (rulesOf v) (sym e) ∙ at-holds v small right j u)
-    where
-      nothing-rule : {t : List ℕ} → ¬ (nothing ≡ rule t)
-      nothing-rule e = let z : _≡_ {A = ℕ} 0 1 = cc in omega arith
+  other-number j u e = not-rule (sym (a .new) ∙ ap (rulesOf v) (sym e) ∙ at-holds v small right j u)
 
   new-record : Recorded v′ r
   new-record = record {
@@ -192,15 +195,15 @@ module _ (v v′ : View) (k r p : ℕ) (t : List ℕ) (m : Shape) (small : (n : 
   pub added-right : Right v′
   added-right = record { records = added-records; tree = added-tree }
 
-  pub added-rules : (j : ℕ) → rulesOf v′ j ≡ withRule (rulesOf v) k t j
+  pub added-rules : (j : ℕ) → rulesOf v′ j ≡ withRule (rulesOf v) k it j
   unfolding holding
   added-rules j = go (ℕ-discrete j k)
     where
-      go : Dec (j ≡ k) → rulesOf v′ j ≡ withRule (rulesOf v) k t j
+      go : Dec (j ≡ k) → rulesOf v′ j ≡ withRule (rulesOf v) k it j
       go (yes e) =
-          let here : rulesOf v′ k ≡ rule t = ap (holding v′ k) (a .to-place) ∙ is-number v′ k r (a .place) added-taken added-number ∙ ap rule added-term in
-          ap (rulesOf v′) e ∙ here ∙ sym (ap (λ (b : Bool). pickHeld b (rule t) (rulesOf v j)) (eq-eqb j k e))
-      go (no e) = by (ℕ-discrete (v .place j) r) ∙ sym (ap (λ (b : Bool). pickHeld b (rule t) (rulesOf v j)) (ne-eqb j k e))
+          let here : rulesOf v′ k ≡ rule it = ap (holding v′ k) (a .to-place) ∙ is-number v′ k r (a .place) added-taken added-number ∙ ap rule added-rule in
+          ap (rulesOf v′) e ∙ here ∙ sym (ap (λ (b : Bool). pick b (rule it) (rulesOf v j)) (eq-eqb j k e))
+      go (no e) = by (ℕ-discrete (v .place j) r) ∙ sym (ap (λ (b : Bool). pick b (rule it) (rulesOf v j)) (ne-eqb j k e))
         where
           moved : rulesOf v′ j ≡ holding v′ j (v .place j)
           moved = ap (holding v′ j) (a .places j e)
@@ -306,8 +309,8 @@ module _ (v v′ : View) (r : ℕ) (small : (n : ℕ) → Used (v .tree) n → n
       go : Dec (j ≡ number v r) → rulesOf v′ j ≡ withoutRule (rulesOf v) (number v r) j
       go (yes e) =
           let p : v .place j ≡ r = ap (v .place) e ∙ right .records r (a .used) .found in
-          moved ∙ not-taken v′ j (v .place j) (ap (taken v′) p ∙ removed-gone) ∙ sym (ap (λ (b : Bool). pickHeld b nothing (rulesOf v j)) (eq-eqb j (number v r) e))
-      go (no e) = moved ∙ by (ℕ-discrete (v .place j) r) ∙ sym (ap (λ (b : Bool). pickHeld b nothing (rulesOf v j)) (ne-eqb j (number v r) e))
+          moved ∙ not-taken v′ j (v .place j) (ap (taken v′) p ∙ removed-gone) ∙ sym (ap (λ (b : Bool). pick b nothing (rulesOf v j)) (eq-eqb j (number v r) e))
+      go (no e) = moved ∙ by (ℕ-discrete (v .place j) r) ∙ sym (ap (λ (b : Bool). pick b nothing (rulesOf v j)) (ne-eqb j (number v r) e))
         where
           by : Dec (v .place j ≡ r) → holding v′ j (v .place j) ≡ rulesOf v j
           by (yes q) = not-taken v′ j (v .place j) (ap (taken v′) q ∙ removed-gone) ∙ sym (not-number v j (v .place j) (λ d. e (sym d ∙ ap (number v) q)))

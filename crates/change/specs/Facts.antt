@@ -4,15 +4,15 @@ use mathlib.Core.List.{List}
 use Prim.Native.Nat.{ℕ}
 use Rattle.book.specs.declared.Added.{Added}
 use Rattle.book.specs.declared.Removed.{Removed}
-use Rattle.book.specs.Rules.{Rules, withoutRule, judged, after, removal}
+use Rattle.book.specs.Rules.{Rule, Rules, withoutRule, judged, after, removal}
 use Rattle.book.specs.Memory.{rulesIn}
 use Rattle.change.specs.Promises.{Adds, Removes}
 
 module _ (ws vs : List ℕ) (same : rulesIn ws ≡ rulesIn vs) where
-  pub adds-alike : (ws′ vs′ : List ℕ) (k : ℕ) (t : List ℕ) (r s : Added) → Adds ws ws′ k t r → Adds vs vs′ k t s → (r ≡ s) × (rulesIn ws′ ≡ rulesIn vs′)
-  adds-alike ws′ vs′ k t r s x y =
-      let e : r ≡ s = x .answer ∙ ap (λ (z : Rules). judged z k t) same ∙ sym (y .answer) in
-      (e, x .rules ∙ ap₂ (λ (a : Added) (z : Rules). after a z k t) e same ∙ sym (y .rules))
+  pub adds-alike : (ws′ vs′ : List ℕ) (k : ℕ) (it : Rule) (r s : Added) → Adds ws ws′ k it r → Adds vs vs′ k it s → (r ≡ s) × (rulesIn ws′ ≡ rulesIn vs′)
+  adds-alike ws′ vs′ k it r s x y =
+      let e : r ≡ s = x .answer ∙ ap (λ (z : Rules). judged z k it) same ∙ sym (y .answer) in
+      (e, x .rules ∙ ap₂ (λ (a : Added) (z : Rules). after a z k it) e same ∙ sym (y .rules))
 
   pub removes-alike : (ws′ vs′ : List ℕ) (k : ℕ) (r s : Removed) → Removes ws ws′ k r → Removes vs vs′ k s → (r ≡ s) × (rulesIn ws′ ≡ rulesIn vs′)
   removes-alike ws′ vs′ k r s x y =

@@ -10,7 +10,7 @@ use Rattle.book.specs.declared.Added.{Added}
 use Rattle.book.specs.declared.Added.the-variants.{Taken}
 use Rattle.book.specs.declared.Removed.{Removed}
 use Rattle.book.specs.declared.Removed.the-variants.{NotHeld}
-use Rattle.book.specs.Rules.{withoutRule, judged, after, removal}
+use Rattle.book.specs.Rules.{Rule, withoutRule, judged, after, removal}
 use Rattle.book.specs.Memory.{View, view, Passing, rulesIn}
 
 -- The nodes that come into use are the free ones of lowest number, and none goes out of use.
@@ -23,10 +23,10 @@ pub record TakesNone (m m′ : Shape) : Type 0 where
   pub were : (n : ℕ) → n < nodesLimit → m′ .used n ≡ true → m .used n ≡ true
 
 -- An add answers as the rules judge it. Where the rule is taken the book passes with it; where it is refused nothing has changed.
-pub record Adds (ws ws′ : List ℕ) (k : ℕ) (t : List ℕ) (r : Added) : Type 0 where
-  pub answer : r ≡ judged (rulesIn ws) k t
+pub record Adds (ws ws′ : List ℕ) (k : ℕ) (it : Rule) (r : Added) : Type 0 where
+  pub answer : r ≡ judged (rulesIn ws) k it
   pub passes : Passing ws′
-  pub rules : rulesIn ws′ ≡ after r (rulesIn ws) k t
+  pub rules : rulesIn ws′ ≡ after r (rulesIn ws) k it
   pub nodes : TakesLowest (view ws .tree) (view ws′ .tree)
   pub same : ¬ (r ≡ Taken) → ws′ ≡ ws
 
@@ -38,12 +38,12 @@ pub record Removes (ws ws′ : List ℕ) (k : ℕ) (r : Removed) : Type 0 where
   pub nodes : TakesNone (view ws .tree) (view ws′ .tree)
   pub same : r ≡ NotHeld → ws′ ≡ ws
 
--- The record of a number with its term comes to the place r, and nothing else changes.
-pub record Stores (v v′ : View) (k r : ℕ) (t : List ℕ) : Type 0 where
+-- The record of a number with its rule comes to the place r, and nothing else changes.
+pub record Stores (v v′ : View) (k r : ℕ) (it : Rule) : Type 0 where
   pub tree : v′ .tree ≡ v .tree
   pub to-place : v′ .place k ≡ r
   pub places : (j : ℕ) → ¬ (j ≡ k) → v′ .place j ≡ v .place j
-  pub size : v′ .size r ≡ length t
+  pub size : v′ .size r ≡ length (it .term)
   pub sizes : (j : ℕ) → ¬ (j ≡ r) → v′ .size j ≡ v .size j
-  pub cells : v′ .cells r ≡ t ++ replicate (32 - length t) 0
+  pub cells : v′ .cells r ≡ it .term ++ replicate (32 - length (it .term)) 0
   pub cellss : (j : ℕ) → ¬ (j ≡ r) → v′ .cells j ≡ v .cells j

@@ -3,6 +3,7 @@ ghost use mathlib.Core.Path.{_≡_};
 ghost use Prim.Native.Nat.{_<_, _≤_};
 ghost use lib.ListN.{length};
 ghost use Rattle.layout.specs.Layout.{ruleNumbers, rulesLimit, lastLink, signFields, bookWords};
+ghost use Rattle.book.specs.Rules.{plain};
 ghost use Rattle.book.specs.Memory.{Passing, view};
 ghost use Rattle.book.specs.Promises.{IsTerm};
 ghost use Rattle.change.specs.Promises.{Adds, Removes, Stores};
@@ -15,7 +16,7 @@ pub fn add(m: &mut [u64], number: u16, term: &[u16]) -> Added
     requires { ⌜ Passing (now m) ⌝ }
     requires { ⌜ number < ruleNumbers ⌝ }
     requires { ⌜ IsTerm (now term) ⌝ }
-    ensures { λ r. ⌜ Adds (now (m .entry)) (now (m .exit)) number (now (term .entry)) r ⌝ }
+    ensures { λ r. ⌜ Adds (now (m .entry)) (now (m .exit)) number (plain (now (term .entry))) r ⌝ }
 {
     if book::place_of(m, number) != Book::RULES {
         return Added::HeldAlready;
@@ -44,7 +45,7 @@ pub fn add(m: &mut [u64], number: u16, term: &[u16]) -> Added
 // Writes the place of a number, and the record there.
 fn put_record(m: &mut [u64], r: usize, number: u16, term: &[u16])
     requires { ⌜ (length (now m) ≡ bookWords) × (r < rulesLimit) × (number < ruleNumbers) × (length (now term) ≤ 32) ⌝ }
-    ensures { λ _. ⌜ Stores (view (now (m .entry))) (view (now (m .exit))) number r (now (term .entry)) ⌝ }
+    ensures { λ _. ⌜ Stores (view (now (m .entry))) (view (now (m .exit))) number r (plain (now (term .entry))) ⌝ }
 {
     bits::put_field(
         &mut m[layout::PLACES_AT..layout::PLACES_END],

@@ -10,7 +10,7 @@ use lib.Seq.{getD-append-seam}
 use Rattle.term.specs.Whole.{whole-term}
 use Rattle.book.specs.declared.Added.{Added}
 use Rattle.book.specs.declared.Added.the-variants.{Taken}
-use Rattle.book.specs.Rules.{Held, nothing, rule, Rules, withRule, nodesOf, judged, addRefusal, after}
+use Rattle.book.specs.Rules.{Rule, Held, nothing, rule, Rules, withRule, nodesOf, judged, addRefusal, after}
 use Rattle.book.specs.Memory.{Passing, rulesIn}
 use Rattle.book.specs.Facts.{Limited, limited}
 use Rattle.questions.specs.Demand2.{never-more}
@@ -22,11 +22,11 @@ use Rattle.commands.specs.Kinds.{modeOf, kindAt}
 use Rattle.commands.specs.Commands.{commandIn}
 use Rattle.commands.specs.Laws.{TakesTerm, FaultIs, term-fault, act-is, number-is, read-of}
 use Rattle.batch.specs.Effects.{Change, more, changeOf, Effect, shown, tells, acts, does}
-use Rattle.batch.specs.Run.{Outcome, ends, endsWith, goesOn, run}
+use Rattle.batch.specs.Run.{Outcome, endsWith, goesOn, run}
 use Rattle.batch.specs.Promises.{Came, Changes, Along, none, then, ran, turned-away, passing}
 use Rattle.batch.specs.Laws.{does-stop, does-act, any-effect, rest, run-none, run-10, run-stops, run-goes-on, along-on, unchanged}
 use Rattle.claggyfoot.specs.Stages.{Stage, onward, Reaches, start, next, from, reached, does-rules, first-of, MemoryAt, memory-at}
-use Rattle.claggyfoot.specs.Calls.{Exactly, Call, Kept, CameTo, Idle, NodesTaken, effectOf, sizeOf, StopsHere, Answered, Ended, GoneOn, RefusedOn, StoppedBy}
+use Rattle.claggyfoot.specs.Calls.{Exactly, Call, Kept, CameTo, Idle, NodesTaken, effectOf, sizeOf, ruleOf, StopsHere, Answered, Ended, GoneOn, RefusedOn, StoppedBy}
 use Rattle.claggyfoot.specs.NewNodes.{InUse, freeBelow, which-nodes}
 use Rattle.claggyfoot.specs.Refusals.{Adds-term, add-refused, goes-on-with, is-added, told-only, refused-stays}
 
@@ -58,7 +58,7 @@ module _ (rs : List Record) (a : Record) (qs : List Record) where
 -- a command's record, where it is refused, has no further cells
 shown-bare : (h : Held) → ¬ (shown h .refusal ≡ 0) → shown h ≡ bare (shown h .refusal)
 shown-bare nothing n = refl
-shown-bare (rule t) n = absurd (n refl)
+shown-bare (rule r) n = absurd (n refl)
 
 pub refused-bare : (rules : Rules) (behind : List ℕ) (x : Command) → ¬ (does rules behind x .answer .refusal ≡ 0) → does rules behind x .answer ≡ bare (does rules behind x .answer .refusal)
 refused-bare rules behind x = any-effect rules behind x (λ e. ¬ (e .answer .refusal ≡ 0) → e .answer ≡ bare (e .answer .refusal)) (go (x .act) (x .number) (take (x .size) behind)) (λ n. refl)
@@ -77,7 +77,7 @@ short-record rules l behind x = any-effect rules behind x (λ e. length (e .answ
   where
     showing : (k : ℕ) (h : Held) → rules k ≡ h → length (shown h .cells) < 4096
     showing k nothing e = omega arith
-    showing k (rule t) e = let a = whole-term t (length t) (l .whole k t e) .short in omega arith
+    showing k (rule r) e = let a = whole-term (r .term) (length (r .term)) (l .whole k r e) .short in omega arith
 
     go : (a : Act) (k : ℕ) (t : List ℕ) → length (acts a rules k t .answer .cells) < 4096
     go Unknown k t = omega arith
@@ -258,7 +258,7 @@ module _ {call : Call} {s : Stage} {c : ℕ} {behind : List ℕ} (at : CameTo ca
       let t = term-fault (kindAt (c / 4096)) (c % 4096) behind r h in
       stops-exactly r (λ e. absurd (omega arith)) d {P = TakesTerm (kindAt (c / 4096)) (c % 4096) × P} ((λ e. let x = t .0 e in (x .0, w .0 (x .1))), (λ x. t .1 (x .0, w .1 (x .1))))
 
-  pub add-exactly : (r : ℕ) → 6 ≤ r → ¬ (r ≡ 7) → {P : Type 0} → addRefusal (judged (s .rules) (c % 4096) (take (sizeOf c behind) behind)) ≡ r ↔ P
+  pub add-exactly : (r : ℕ) → 6 ≤ r → ¬ (r ≡ 7) → {P : Type 0} → addRefusal (judged (s .rules) (c % 4096) (ruleOf c behind)) ≡ r ↔ P
       → Exactly (Answered call s r) ((0 < s .room) × (Adds-term (kindAt (c / 4096)) behind (sizeOf c behind) × P)) (RefusedOn call s r c behind)
   add-exactly r h n {P} w =
       let t = add-refused (s .rules) (c / 4096) (c % 4096) (omega arith) behind r h n in
@@ -270,15 +270,16 @@ module _ {call : Call} {s : Stage} {c : ℕ} {behind : List ℕ} (at : CameTo ca
   goes-on : Adds-term (kindAt (c / 4096)) behind (sizeOf c behind) → command .stop ≡ 0
   goes-on x = ap (λ (y : Command). y .stop) (is-added (s .rules) (c / 4096) (c % 4096) (omega arith) behind (sizeOf c behind) x)
 
-  taken-does : Adds-term (kindAt (c / 4096)) behind (sizeOf c behind) → judged (s .rules) (c % 4096) (take (sizeOf c behind) behind) ≡ Taken
-      → effect ≡ record { answer = bare 0; rules = withRule (s .rules) (c % 4096) (take (sizeOf c behind) behind); changes = more (c % 4096) (take (sizeOf c behind) behind) ∷ [] }
+  taken-does : Adds-term (kindAt (c / 4096)) behind (sizeOf c behind) → judged (s .rules) (c % 4096) (ruleOf c behind) ≡ Taken
+      → effect ≡ record { answer = bare 0; rules = withRule (s .rules) (c % 4096) (ruleOf c behind); changes = more (c % 4096) (ruleOf c behind) ∷ [] }
   taken-does x e =
       let k = c % 4096 in let t = take (sizeOf c behind) behind in
       does-act (s .rules) behind command (goes-on x)
       ∙ ap₂ (λ (a : Act) (j : ℕ). acts a (s .rules) j t) (act-is (kindAt (c / 4096)) k behind ∙ x .0) (number-is (kindAt (c / 4096)) k behind)
-      ∙ ap (λ (a : Added). record { answer = bare (addRefusal a); rules = after a (s .rules) k t; changes = changeOf a k t }) e
+      ∙ ap (λ (a : Added). record { answer = bare (addRefusal a); rules = after a (s .rules) k (ruleOf c behind); changes = changeOf a k (ruleOf c behind) }) e
 
-  pub nodes-taken : 0 < s .room → Adds-term (kindAt (c / 4096)) behind (sizeOf c behind) → judged (s .rules) (c % 4096) (take (sizeOf c behind) behind) ≡ Taken → NodesTaken call s (onward s (sizeOf c behind) effect behind)
+  pub nodes-taken : 0 < s .room → Adds-term (kindAt (c / 4096)) behind (sizeOf c behind) → judged (s .rules) (c % 4096) (ruleOf c behind) ≡ Taken
+      → NodesTaken call s (onward s (sizeOf c behind) effect behind)
   nodes-taken h x e =
       record {
         before = m .0;
@@ -297,10 +298,10 @@ module _ {call : Call} {s : Stage} {c : ℕ} {behind : List ℕ} (at : CameTo ca
       k : ℕ
       k = c % 4096
 
-      t : List ℕ
-      t = take (sizeOf c behind) behind
+      its : Rule
+      its = ruleOf c behind
 
-      new : effect .changes ≡ more k t ∷ []
+      new : effect .changes ≡ more k its ∷ []
       new = ap (λ (z : Effect). z .changes) (taken-does x e)
 
       few : length (effect .answer .cells) < s .room
@@ -309,13 +310,13 @@ module _ {call : Call} {s : Stage} {c : ℕ} {behind : List ℕ} (at : CameTo ca
       m : (m : List ℕ) × MemoryAt (call .book) (call .book′) s m
       m = memory
 
-      f : (m′ : List ℕ) × Changes (more k t) (m .0) m′ × Along (rest (s .rules) c behind (s .room) .changes) m′ (call .book′)
-      f = first-of (more k t) (rest (s .rules) c behind (s .room) .changes) (m .1 .to-come)
+      f : (m′ : List ℕ) × Changes (more k its) (m .0) m′ × Along (rest (s .rules) c behind (s .room) .changes) m′ (call .book′)
+      f = first-of (more k its) (rest (s .rules) c behind (s .room) .changes) (m .1 .to-come)
           (ap (λ (y : List ℕ). run (s .rules) y (s .room) .changes) (at .here) ∙ ap (λ (o : Outcome). o .changes) (run-goes-on (s .rules) c behind (s .room) few (goes-on x))
           ∙ ap (λ (cs : List Change). cs ++ rest (s .rules) c behind (s .room) .changes) new)
 
       held : rulesIn (f .0) ≡ effect .rules
-      held = f .1 .rules-are ∙ ap (λ (r : Rules). withRule r k t) (m .1 .rules-are) ∙ ap (λ (z : Effect). z .rules) (sym (taken-does x e))
+      held = f .1 .rules-are ∙ ap (λ (r : Rules). withRule r k its) (m .1 .rules-are) ∙ ap (λ (z : Effect). z .rules) (sym (taken-does x e))
 
 -- ---- commands that change nothing
 

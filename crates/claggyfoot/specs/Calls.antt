@@ -3,9 +3,9 @@ use mathlib.Core.Path.{_≡_}
 use mathlib.Core.Logic.{_⊎_, _↔_}
 use mathlib.Core.List.{List, [], _∷_, _++_}
 use Prim.Native.Nat.{ℕ, _-_, _/_, _≤_, _<_}
-use lib.ListN.{length, getD, drop}
+use lib.ListN.{length, getD, take, drop}
 use Rattle.layout.specs.Layout.{nodesLimit}
-use Rattle.book.specs.Rules.{nodesOf}
+use Rattle.book.specs.Rules.{Rule, plain, nodesOf}
 use Rattle.book.specs.Memory.{Passing, rulesIn}
 use Rattle.commands.specs.Records.{Record, bare, written}
 use Rattle.commands.specs.Commands.{commandIn}
@@ -46,6 +46,10 @@ effectOf s c behind = does (s .rules) behind (commandIn (c ∷ behind))
 
 abbrev pub sizeOf : ℕ → List ℕ → ℕ
 sizeOf c behind = commandIn (c ∷ behind) .size
+
+-- The rule that an add adds.
+abbrev pub ruleOf : ℕ → List ℕ → Rule
+ruleOf c behind = plain (take (sizeOf c behind) behind)
 
 -- The command is refused, or of kind 2 to 7.
 abbrev pub Idle : Stage → ℕ → List ℕ → Type 0

@@ -11,7 +11,7 @@
 use mathlib.Core.Path.{_≡_, sym, ap, ap₂, _∙_, subst}
 use mathlib.Core.Logic.{_⊎_, inl, inr, _↔_}
 use mathlib.Core.List.{List, [], _∷_, _++_, List·Memᴰ}
-use Prim.Native.Nat.{ℕ, _+_, _-_, _*_, _/_, _%_, _≤_, _<_}
+use Prim.Native.Nat.{ℕ, _+_, _*_, _/_, _%_, _≤_, _<_}
 use native.Mathlib.Omega.{arith}
 use native.Mathlib.Decide.{ℕ-discrete}
 use lib.ListN.{length, getD, take, drop}
@@ -22,25 +22,25 @@ use Rattle.term.specs.declared.reading.Fault.the-variants.{TooLong, CutShort, F
 use Rattle.names.specs.Name.{IsName}
 use Rattle.names.specs.Table.{Holds, Missing, put, Passes as PassesTable}
 use Rattle.book.specs.declared.Added.the-variants.{Taken}
-use Rattle.book.specs.Rules.{nothing, rule, Rules, withRule, ruleCount, nodesOf, judged}
+use Rattle.book.specs.Rules.{Rule, nothing, rule, Rules, withRule, ruleCount, nodesOf, judged}
 use Rattle.book.specs.Memory.{Passing, rulesIn}
 use Rattle.book.specs.Promises.{IsTerm, Empties}
 use Rattle.book.specs.Facts.{empty-passes, empties-once}
 use Rattle.questions.specs.Asking.{Ordered, answers, Listed}
 use Rattle.questions.specs.Demand2.{WholeRules, lists, ordered, never-more, other-way-listed}
-use Rattle.commands.specs.Records.{Record, good, written}
+use Rattle.commands.specs.Records.{good, written}
 use Rattle.commands.specs.declared.kinds.Act.{Act}
 use Rattle.commands.specs.declared.kinds.Kind.{Kind}
 use Rattle.commands.specs.Kinds.{ask, kindAt, aboutTerm, mode-is}
 use Rattle.commands.specs.Words.{InWords, in-words}
 use Rattle.commands.specs.Commands.{commandIn}
 use Rattle.commands.specs.Laws.{Wrong, TakesTerm, Faulty, fault-3, fault-4, fault-5, two, act-is, whole-behind, read-of}
-use Rattle.batch.specs.Effects.{Effect, tells, acts, does}
+use Rattle.batch.specs.Effects.{Effect, tells, acts}
 use Rattle.batch.specs.Run.{Outcome, run}
 use Rattle.batch.specs.Promises.{Came, Ran, Turned-away, Runs, ran, turned-away, passing}
-use Rattle.batch.specs.Laws.{does-act, unchanged}
+use Rattle.batch.specs.Laws.{does-act}
 use Rattle.claggyfoot.specs.Stages.{Stage, onward, does-rules, MemoryAt}
-use Rattle.claggyfoot.specs.Calls.{Exactly, Call, Kept, CameTo, effectOf, sizeOf, Idle, StopsHere, Answered, Ended, GoneOn, RefusedOn, StoppedBy, NodesTaken}
+use Rattle.claggyfoot.specs.Calls.{Exactly, Call, Kept, CameTo, effectOf, sizeOf, ruleOf, Idle, StopsHere, Answered, Ended, GoneOn, RefusedOn, StoppedBy, NodesTaken}
 use Rattle.claggyfoot.specs.Refusals.{Adds-term, Names-rule, Held-already, StopNumber, Ends, six, eight, nine, not-held, goes-on-with, batch-ends}
 use Rattle.claggyfoot.specs.AtCommand.{memory, limits, answered, stops-exactly, refused-exactly, ten, gone-on, fault-exactly, add-exactly, nodes-taken, idle, idle-stays, idle-keeps}
 use Rattle.claggyfoot.specs.Naming.{Gave, Told, enter-1, enter-11, enter-12, enter-held, enter-new, name-of-1, name-of-13, name-of-held}
@@ -90,12 +90,12 @@ module _ {call : Call} {s : Stage} {c : ℕ} {behind : List ℕ} (at : CameTo ca
   abbrev number : ℕ
   number = c % 4096
 
-  -- the cells behind its command cell that are its own, and with an add its term
+  -- how many cells behind its command cell are its own, and with an add its rule
   abbrev size : ℕ
   size = sizeOf c behind
 
-  abbrev term : List ℕ
-  term = take size behind
+  abbrev new-rule : Rule
+  new-rule = ruleOf c behind
 
   -- 2: an unknown kind, or number not 0 where it must be. Record 2000, stop.
   pub refusal-2 : Exactly (StopsHere call s 2) ((0 < s .room) × Wrong row number) (StoppedBy call s 2)
@@ -115,19 +115,23 @@ module _ {call : Call} {s : Stage} {c : ℕ} {behind : List ℕ} (at : CameTo ca
 
   -- 6: add, number already held. Record 6000, go on.
   pub refusal-6 : Exactly (Answered call s 6) ((0 < s .room) × (Adds-term row behind size × Held-already (s .rules) number)) (RefusedOn call s 6 c behind)
-  refusal-6 = add-exactly at 6 (omega arith) (λ e. absurd (omega arith)) (six (s .rules) number term)
+  refusal-6 = add-exactly at 6 (omega arith) (λ e. absurd (omega arith)) (six (s .rules) number new-rule)
 
   -- 7: remove, show: number not held. Record 7000, go on.
   pub refusal-7 : Exactly (Answered call s 7) ((0 < s .room) × (Names-rule row × (s .rules number ≡ nothing))) (RefusedOn call s 7 c behind)
   refusal-7 = refused-exactly at 7 (λ e. absurd (omega arith)) (goes-on-with (s .rules) kind number (omega arith) behind 7 (λ x. let a = x .1 in omega arith)) (not-held (s .rules) kind number (omega arith) behind)
 
   -- 8: add, 512 rules held (and not 6). Record 8000, go on.
-  pub refusal-8 : Exactly (Answered call s 8) ((0 < s .room) × (Adds-term row behind size × ((s .rules number ≡ nothing) × (rulesLimit ≤ ruleCount (s .rules))))) (RefusedOn call s 8 c behind)
-  refusal-8 = add-exactly at 8 (omega arith) (λ e. absurd (omega arith)) (eight (s .rules) number term)
+  pub refusal-8 : Exactly (Answered call s 8)
+      ((0 < s .room) × (Adds-term row behind size × ((s .rules number ≡ nothing) × (rulesLimit ≤ ruleCount (s .rules)))))
+      (RefusedOn call s 8 c behind)
+  refusal-8 = add-exactly at 8 (omega arith) (λ e. absurd (omega arith)) (eight (s .rules) number new-rule)
 
   -- 9: add, node count with the rule would pass 4,096 (and neither 6 nor 8). Record 9000, go on.
-  pub refusal-9 : Exactly (Answered call s 9) ((0 < s .room) × (Adds-term row behind size × ((s .rules number ≡ nothing) × (ruleCount (s .rules) < rulesLimit) × (nodesLimit < nodesOf (withRule (s .rules) number term))))) (RefusedOn call s 9 c behind)
-  refusal-9 = add-exactly at 9 (omega arith) (λ e. absurd (omega arith)) (nine (s .rules) number term)
+  pub refusal-9 : Exactly (Answered call s 9)
+      ((0 < s .room) × (Adds-term row behind size × ((s .rules number ≡ nothing) × (ruleCount (s .rules) < rulesLimit) × (nodesLimit < nodesOf (withRule (s .rules) number new-rule)))))
+      (RefusedOn call s 9 c behind)
+  refusal-9 = add-exactly at 9 (omega arith) (λ e. absurd (omega arith)) (nine (s .rules) number new-rule)
 
   -- 10: the record, good or refused, doesn't fit in the output left. No record, no effect, stop.
   pub refusal-10 : Exactly (StopsHere call s 10) (s .room ≤ length (effectOf s c behind .answer .cells)) (Ended call s 10 (s .records))
@@ -151,7 +155,7 @@ module _ {call : Call} {s : Stage} {c : ℕ} {behind : List ℕ} (at : CameTo ca
   refused-same-words i = idle-stays at (idle s c behind i)
 
   -- An add that takes effect: which nodes come into use.
-  pub new-nodes : 0 < s .room → Adds-term row behind size → judged (s .rules) number term ≡ Taken → NodesTaken call s (onward s size (effectOf s c behind) behind)
+  pub new-nodes : 0 < s .room → Adds-term row behind size → judged (s .rules) number new-rule ≡ Taken → NodesTaken call s (onward s size (effectOf s c behind) behind)
   new-nodes = nodes-taken at
 
 -- 11: no name: empty, over 31 bytes, a byte outside 32 to 126, or first or last byte a space. Number 0, every byte of the table as it was.
@@ -205,7 +209,7 @@ batch-keeps = idle-keeps
 -- The list of a question: a number is in it exactly when there is a rule under it in the relation with the question; ascending, so each once; never more than there are rules.
 pub record ListsExactly (mode : Mode) (question : List ℕ) (rules : Rules) (numbers : List ℕ) : Type 0 where
   pub exactly : (k : ℕ) → List·Memᴰ k numbers ↔ Listed mode question rules k
-  pub in-order : Ordered numbers
+  pub in-order : Ordered rules numbers
   pub few : length numbers ≤ ruleCount rules
 
 -- Each question that a batch comes to has such a list for its record, written in full, where the list has room; and then the batch goes on with the same rules.
@@ -237,8 +241,8 @@ demand-2 {call} {s} {c} {behind} at mode is z =
         subst (λ (x : Effect). GoneOn call s (x .answer) (onward s (sizeOf c behind) x behind)) same (gone-on at f z)
 
 -- A rule is listed as a generalisation of a pattern exactly when that pattern, were it the rule, would be listed as an instance of it.
-pub demand-2-other-way : (rules swapped : Rules) (q t : List ℕ) (k : ℕ) → IsTerm q → IsTerm t → WholeRules rules → WholeRules swapped → rules k ≡ rule t → swapped k ≡ rule q
-    → List·Memᴰ k (answers generalisations q rules) ↔ List·Memᴰ k (answers instances t swapped)
+pub demand-2-other-way : (rules swapped : Rules) (r s : Rule) (k : ℕ) → WholeRules rules → WholeRules swapped → rules k ≡ rule r → swapped k ≡ rule s
+    → List·Memᴰ k (answers generalisations (s .term) rules) ↔ List·Memᴰ k (answers instances (r .term) swapped)
 demand-2-other-way = other-way-listed
 
 -- ==== Demand 3: answers depend on the set of rules alone

@@ -9,13 +9,14 @@ use native.Mathlib.Decide.{ℕ-discrete, decLt}
 use borrow.Author.Tests.{ltb-true, leb-true, leb-false, lt-ltb, le-leb, lt-leb}
 use lib.Dec.{leb, ltb}
 use lib.ListN.{length, take, drop, length-drop}
+use Rattle.deciding.specs.Deciding.{pick}
 use Rattle.layout.specs.Layout.{rulesLimit, nodesLimit}
 use Rattle.term.specs.Counting.{true≢false}
 use Rattle.term.specs.Reading.{readTerm}
 use Rattle.term.specs.declared.reading.Reading.the-variants.{Whole}
 use Rattle.book.specs.declared.Added.{Added}
 use Rattle.book.specs.declared.Added.the-variants.{Taken, HeldAlready, BookFull, NoNodes}
-use Rattle.book.specs.Rules.{Held, nothing, rule, Rules, isHeld, withRule, ruleCount, nodesOf, addRefusal, pickAdded, judged, removal, removeRefusal}
+use Rattle.book.specs.Rules.{Rule, plain, Held, nothing, rule, Rules, isHeld, withRule, ruleCount, nodesOf, addRefusal, judged, removal, removeRefusal}
 use Rattle.commands.specs.declared.kinds.Act.{Act}
 use Rattle.commands.specs.declared.kinds.Act.the-variants.{Unknown, Add, Remove, Ask, Show, Room}
 use Rattle.commands.specs.declared.kinds.Kind.{Kind}
@@ -24,14 +25,14 @@ use Rattle.commands.specs.Kinds.{kindAt, aboutTerm, aboutRule, changesBook, ter
 use Rattle.commands.specs.Commands.{commandWith, commandOf, commandIn}
 use Rattle.commands.specs.Laws.{right-number, whole-read, plain-read, act-is, number-is, stop-range, read-of}
 use Rattle.batch.specs.Effects.{Effect, changeOf, changeAt, shown, acts, does}
-use Rattle.batch.specs.Run.{Outcome, ends, goesOn, run}
+use Rattle.batch.specs.Run.{Outcome, goesOn, run}
 use Rattle.batch.specs.Laws.{does-stop, does-act, any-effect, run-none, run-10, run-stops, run-goes-on}
 
 -- ---- what the book says: refusals 6, 8 and 9 of an add, 7 of a remove and a show
 
 -- three tests, the first that holds decides
 abbrev chosen : (held full over : Bool) → ℕ
-chosen held full over = addRefusal (pickAdded held HeldAlready (pickAdded full BookFull (pickAdded over NoNodes Taken)))
+chosen held full over = addRefusal (pick held HeldAlready (pick full BookFull (pick over NoNodes Taken)))
 
 is-6 : (a b c : Bool) → chosen a b c ≡ 6 → a ≡ true
 is-6 true b c e = refl
@@ -67,44 +68,53 @@ at-9 false true c e f g = absurd (true≢false refl f)
 at-9 true b c e f g = absurd (true≢false refl e)
 
 abbrev pub Held-already : Rules → ℕ → Type 0
-Held-already rules k = (t : List ℕ) × (rules k ≡ rule t)
+Held-already rules k = (r : Rule) × (rules k ≡ rule r)
 
-held-is : (h : Held) → isHeld h ≡ true → (t : List ℕ) × (h ≡ rule t)
-held-is (rule t) e = (t, refl)
+held-is : (h : Held) → isHeld h ≡ true → (r : Rule) × (h ≡ rule r)
+held-is (rule r) e = (r, refl)
 held-is nothing e = absurd (true≢false e refl)
 
 free-is : (h : Held) → isHeld h ≡ false → h ≡ nothing
 free-is nothing e = refl
-free-is (rule t) e = absurd (true≢false refl e)
+free-is (rule r) e = absurd (true≢false refl e)
 
-module _ (rules : Rules) (k : ℕ) (term : List ℕ) where
+module _ (rules : Rules) (k : ℕ) (r : Rule) where
+  abbrev held : Bool
+  held = isHeld (rules k)
+
+  abbrev full : Bool
+  full = leb rulesLimit (ruleCount rules)
+
+  abbrev over : Bool
+  over = ltb nodesLimit (nodesOf (withRule rules k r))
+
   -- number already held
-  pub six : addRefusal (judged rules k term) ≡ 6 ↔ Held-already rules k
-  six = (λ e. held-is (rules k) (is-6 (isHeld (rules k)) (leb rulesLimit (ruleCount rules)) (ltb nodesLimit (nodesOf (withRule rules k term))) e), λ h. at-6 (isHeld (rules k)) (leb rulesLimit (ruleCount rules)) (ltb nodesLimit (nodesOf (withRule rules k term))) (ap isHeld (h .1)))
+  pub six : addRefusal (judged rules k r) ≡ 6 ↔ Held-already rules k
+  six = ((λ e. held-is (rules k) (is-6 held full over e)), (λ h. at-6 held full over (ap isHeld (h .1))))
 
   -- 512 rules held
-  pub eight : addRefusal (judged rules k term) ≡ 8 ↔ ((rules k ≡ nothing) × (rulesLimit ≤ ruleCount rules))
+  pub eight : addRefusal (judged rules k r) ≡ 8 ↔ ((rules k ≡ nothing) × (rulesLimit ≤ ruleCount rules))
   eight = (
-    (λ e. let x = is-8 (isHeld (rules k)) (leb rulesLimit (ruleCount rules)) (ltb nodesLimit (nodesOf (withRule rules k term))) e in (free-is (rules k) (x .0), leb-true rulesLimit (ruleCount rules) (x .1))),
-    (λ h. at-8 (isHeld (rules k)) (leb rulesLimit (ruleCount rules)) (ltb nodesLimit (nodesOf (withRule rules k term))) (ap isHeld (h .0)) (le-leb rulesLimit (ruleCount rules) (h .1))),
+    (λ e. let x = is-8 held full over e in (free-is (rules k) (x .0), leb-true rulesLimit (ruleCount rules) (x .1))),
+    (λ h. at-8 held full over (ap isHeld (h .0)) (le-leb rulesLimit (ruleCount rules) (h .1))),
   )
 
   -- the node count with the rule would pass 4,096
-  pub nine : addRefusal (judged rules k term) ≡ 9 ↔ ((rules k ≡ nothing) × (ruleCount rules < rulesLimit) × (nodesLimit < nodesOf (withRule rules k term)))
+  pub nine : addRefusal (judged rules k r) ≡ 9 ↔ ((rules k ≡ nothing) × (ruleCount rules < rulesLimit) × (nodesLimit < nodesOf (withRule rules k r)))
   nine = (
-    (λ e. let x = is-9 (isHeld (rules k)) (leb rulesLimit (ruleCount rules)) (ltb nodesLimit (nodesOf (withRule rules k term))) e in
-        (free-is (rules k) (x .0), leb-false rulesLimit (ruleCount rules) (x .1), ltb-true nodesLimit (nodesOf (withRule rules k term)) (x .2))),
-    (λ h. at-9 (isHeld (rules k)) (leb rulesLimit (ruleCount rules)) (ltb nodesLimit (nodesOf (withRule rules k term))) (ap isHeld (h .0)) (lt-leb rulesLimit (ruleCount rules) (h .1)) (lt-ltb nodesLimit (nodesOf (withRule rules k term)) (h .2))),
+    (λ e. let x = is-9 held full over e in
+        (free-is (rules k) (x .0), leb-false rulesLimit (ruleCount rules) (x .1), ltb-true nodesLimit (nodesOf (withRule rules k r)) (x .2))),
+    (λ h. at-9 held full over (ap isHeld (h .0)) (lt-leb rulesLimit (ruleCount rules) (h .1)) (lt-ltb nodesLimit (nodesOf (withRule rules k r)) (h .2))),
   )
 
 -- remove, show: number not held
 pub seven-removed : (h : Held) → removeRefusal (removal h) ≡ 7 ↔ h ≡ nothing
 seven-removed nothing = (λ e. refl, λ e. refl)
-seven-removed (rule t) = (λ e. absurd (omega arith), λ e. absurd (let z : _≡_ {A = ℕ} 0 1 = cc in omega arith))
+seven-removed (rule r) = (λ e. absurd (omega arith), λ e. absurd (let z : _≡_ {A = ℕ} 0 1 = cc in omega arith))
 
 pub seven-shown : (h : Held) → shown h .refusal ≡ 7 ↔ h ≡ nothing
 seven-shown nothing = (λ e. refl, λ e. refl)
-seven-shown (rule t) = (λ e. absurd (omega arith), λ e. absurd (let z : _≡_ {A = ℕ} 0 1 = cc in omega arith))
+seven-shown (rule r) = (λ e. absurd (omega arith), λ e. absurd (let z : _≡_ {A = ℕ} 0 1 = cc in omega arith))
 
 -- ---- at a command: refusals 6 to 9
 
@@ -116,11 +126,11 @@ add-number NoNodes r e z = omega arith
 
 removal-number : (h : Held) → (removeRefusal (removal h) ≡ 0) ⊎ (removeRefusal (removal h) ≡ 7)
 removal-number nothing = inr refl
-removal-number (rule t) = inl refl
+removal-number (rule r) = inl refl
 
 shown-number : (h : Held) → (shown h .refusal ≡ 0) ⊎ (shown h .refusal ≡ 7)
 shown-number nothing = inr refl
-shown-number (rule t) = inl refl
+shown-number (rule r) = inl refl
 
 other-number : {P : Type 0} (x r : ℕ) → x ≡ r → (x ≡ 0) ⊎ (x ≡ 7) → 6 ≤ r → ¬ (r ≡ 7) → P
 other-number x r e (inl z) h n = absurd (omega arith)
@@ -147,7 +157,7 @@ module _ (rules : Rules) (kind number : ℕ) (low : number < 4096) (behind : Lis
   term = take (here .size) behind
 
   abbrev judgement : ℕ
-  judgement = addRefusal (judged rules number term)
+  judgement = addRefusal (judged rules number (plain term))
 
   -- it goes on, and does what the act of its kind does; or it stops, and tells with which number
   goes : here .stop ≡ 0 → effect ≡ acts (row .act) rules number term
@@ -204,7 +214,7 @@ module _ (rules : Rules) (kind number : ℕ) (low : number < 4096) (behind : Lis
     where
       to : (a : Act) → row .act ≡ a → acts a rules number term .answer .refusal ≡ 7 → Names-rule row × (rules number ≡ nothing)
       to Unknown q e = absurd (omega arith)
-      to Add q e = absurd (add-number (judged rules number term) 7 e refl)
+      to Add q e = absurd (add-number (judged rules number (plain term)) 7 e refl)
       to Remove q e = (inl q, seven-removed (rules number) .0 e)
       to (Ask fq fr) q e = absurd (omega arith)
       to Show q e = (inr q, seven-shown (rules number) .0 e)
@@ -231,22 +241,22 @@ module _ (rules : Rules) (kind number : ℕ) (low : number < 4096) (behind : Lis
 
 -- ---- a refused command changes nothing, and only an add or a remove changes anything
 
-add-changes : (a : Added) (k : ℕ) (t : List ℕ) → ¬ (addRefusal a ≡ 0) → changeOf a k t ≡ []
-add-changes Taken k t n = absurd (n refl)
-add-changes HeldAlready k t n = refl
-add-changes BookFull k t n = refl
-add-changes NoNodes k t n = refl
+add-changes : (a : Added) (k : ℕ) (r : Rule) → ¬ (addRefusal a ≡ 0) → changeOf a k r ≡ []
+add-changes Taken k r n = absurd (n refl)
+add-changes HeldAlready k r n = refl
+add-changes BookFull k r n = refl
+add-changes NoNodes k r n = refl
 
 remove-changes : (k : ℕ) (h : Held) → ¬ (removeRefusal (removal h) ≡ 0) → changeAt k h ≡ []
 remove-changes k nothing n = refl
-remove-changes k (rule t) n = absurd (n refl)
+remove-changes k (rule r) n = absurd (n refl)
 
 pub refused-stays : (rules : Rules) (behind : List ℕ) (c : Command) → ¬ (does rules behind c .answer .refusal ≡ 0) → does rules behind c .changes ≡ []
 refused-stays rules behind c = any-effect rules behind c (λ e. ¬ (e .answer .refusal ≡ 0) → e .changes ≡ []) (go (c .act) (c .number) (take (c .size) behind)) (λ n. refl)
   where
     go : (a : Act) (k : ℕ) (t : List ℕ) → ¬ (acts a rules k t .answer .refusal ≡ 0) → acts a rules k t .changes ≡ []
     go Unknown k t n = refl
-    go Add k t n = add-changes (judged rules k t) k t n
+    go Add k t n = add-changes (judged rules k (plain t)) k (plain t) n
     go Remove k t n = remove-changes k (rules k) n
     go (Ask fq fr) k t n = refl
     go Show k t n = refl

@@ -7,9 +7,10 @@ use native.Mathlib.Omega.{arith}
 use borrow.Author.Tests.{eqb-true}
 use lib.Dec.{eqb}
 use lib.ListN.{length, take, drop}
+use Rattle.deciding.specs.Deciding.{pick}
 use Rattle.book.specs.declared.Added.{Added}
 use Rattle.book.specs.declared.Added.the-variants.{Taken, HeldAlready, BookFull, NoNodes}
-use Rattle.book.specs.Rules.{Held, nothing, rule, Rules, pickHeld, withoutRule, judged, after}
+use Rattle.book.specs.Rules.{Rule, plain, Held, nothing, rule, Rules, withoutRule, judged, after}
 use Rattle.book.specs.Memory.{Passing, rulesIn}
 use Rattle.commands.specs.Records.{Record}
 use Rattle.commands.specs.declared.reader.Command.{Command}
@@ -85,19 +86,19 @@ applied-on (c ∷ cs) ds rules = applied-on cs ds (changed c rules)
 pub none-removed : (rules : Rules) (k : ℕ) → rules k ≡ nothing → withoutRule rules k ≡ rules
 none-removed rules k e = fun-ext (λ j. go j (eqb j k) refl)
   where
-    go : (j : ℕ) (b : Bool) → eqb j k ≡ b → pickHeld b nothing (rules j) ≡ rules j
+    go : (j : ℕ) (b : Bool) → eqb j k ≡ b → pick b nothing (rules j) ≡ rules j
     go j true q = sym e ∙ ap rules (sym (eqb-true j k q))
     go j false q = refl
 
-add-applied : (a : Added) (rules : Rules) (k : ℕ) (t : List ℕ) → after a rules k t ≡ applied (changeOf a k t) rules
-add-applied Taken rules k t = refl
-add-applied HeldAlready rules k t = refl
-add-applied BookFull rules k t = refl
-add-applied NoNodes rules k t = refl
+add-applied : (a : Added) (rules : Rules) (k : ℕ) (r : Rule) → after a rules k r ≡ applied (changeOf a k r) rules
+add-applied Taken rules k r = refl
+add-applied HeldAlready rules k r = refl
+add-applied BookFull rules k r = refl
+add-applied NoNodes rules k r = refl
 
 remove-applied : (rules : Rules) (k : ℕ) (h : Held) → rules k ≡ h → withoutRule rules k ≡ applied (changeAt k h) rules
 remove-applied rules k nothing e = none-removed rules k e
-remove-applied rules k (rule t) e = refl
+remove-applied rules k (rule r) e = refl
 
 -- What a command makes of the rules are its changes.
 pub does-applied : (rules : Rules) (behind : List ℕ) (c : Command) → does rules behind c .rules ≡ applied (does rules behind c .changes) rules
@@ -105,7 +106,7 @@ does-applied rules behind c = any-effect rules behind c (λ e. e .rules ≡ appl
   where
     go : (a : Act) (k : ℕ) (t : List ℕ) → acts a rules k t .rules ≡ applied (acts a rules k t .changes) rules
     go Unknown k t = refl
-    go Add k t = add-applied (judged rules k t) rules k t
+    go Add k t = add-applied (judged rules k (plain t)) rules k (plain t)
     go Remove k t = remove-applied rules k (rules k) refl
     go (Ask fq fr) k t = refl
     go Show k t = refl

@@ -10,11 +10,11 @@ use Rattle.layout.specs.Layout.{bookWords, nodesLimit}
 use Rattle.term.specs.Reading.{readTerm, readFrom, takes}
 use Rattle.term.specs.Beginnings.{nodes}
 use Rattle.tree.specs.Tally.{bit, tally}
-use Rattle.book.specs.Rules.{nothing, rule, Rules, each, noRules, withRule, nodesOf}
+use Rattle.book.specs.Rules.{Rule, plain, nothing, Rules, each, noRules, withRule, nodesOf}
 use Rattle.book.specs.Gathered.{not-rule}
 use Rattle.book.specs.Memory.{view, Passing, rulesIn}
 use Rattle.book.specs.Facts.{empty-passes, empty-rules, nodes-in-use}
-use Rattle.questions.specs.Asking.{answers}
+use Rattle.questions.specs.Asking.{inOrder, answers}
 use Rattle.commands.specs.Records.{Record, bare, good, written}
 use Rattle.batch.specs.Effects.{more, less, does}
 use Rattle.commands.specs.Kinds.{kindAt}
@@ -58,7 +58,7 @@ room-stop : run noRules room 3 .stop ≡ 0
 unfolding runFrom readBy kindAt does each nodes
 room-stop = refl
 
-add-rules : run noRules add 1 .rules ≡ withRule noRules 5 (0x8000 ∷ [])
+add-rules : run noRules add 1 .rules ≡ withRule noRules 5 (plain (0x8000 ∷ []))
 unfolding runFrom readBy kindAt does each nodes readTerm readFrom takes
 add-rules = refl
 
@@ -67,10 +67,10 @@ unfolding runFrom readBy kindAt does each nodes readTerm readFrom takes
 show-records = refl
 
 ask-records : run noRules add-ask 3 .records ≡ bare 0 ∷ good (5 ∷ []) ∷ []
-unfolding runFrom readBy kindAt does each nodes readTerm readFrom takes answers
+unfolding runFrom readBy kindAt does each nodes readTerm readFrom takes answers inOrder
 ask-records = refl
 
-add-add-rules : run noRules add-add 2 .rules ≡ withRule (withRule noRules 5 (0x8000 ∷ [])) 6 (0x8000 ∷ [])
+add-add-rules : run noRules add-add 2 .rules ≡ withRule (withRule noRules 5 (plain (0x8000 ∷ []))) 6 (plain (0x8000 ∷ []))
 unfolding runFrom readBy kindAt does each nodes readTerm readFrom takes
 add-add-rules = refl
 
@@ -120,18 +120,24 @@ makes-up-nodes {ws′} {count} {stop} {used} {n} d r = d (ap third (came r .outp
 abbrev pub add-remove : List ℕ
 add-remove = 0x0002 ∷ 0x0003 ∷ 0x1001 ∷ []
 
+abbrev pub rule-1 : Rule
+rule-1 = plain (0x0002 ∷ [])
+
+abbrev pub rule-2 : Rule
+rule-2 = plain (0x0003 ∷ [])
+
 abbrev pub one-rule : Rules
-one-rule = withRule noRules 1 (0x0002 ∷ [])
+one-rule = withRule noRules 1 rule-1
 
 one-node : nodesOf one-rule ≡ 1
 unfolding each nodes
 one-node = refl
 
-two-nodes : nodesOf (withRule one-rule 2 (0x0003 ∷ [])) ≡ 2
+two-nodes : nodesOf (withRule one-rule 2 rule-2) ≡ 2
 unfolding each nodes
 two-nodes = refl
 
-add-remove-changes : run one-rule add-remove 2 .changes ≡ more 2 (0x0003 ∷ []) ∷ less 1 (0x0002 ∷ []) ∷ []
+add-remove-changes : run one-rule add-remove 2 .changes ≡ more 2 rule-2 ∷ less 1 rule-1 ∷ []
 unfolding runFrom readBy kindAt does each nodes readTerm readFrom takes
 add-remove-changes = refl
 
@@ -151,22 +157,22 @@ module _ {ws ws′ out′ : List ℕ} {stop used n : ℕ} (p : Passing ws) (is :
   abbrev u : ℕ → Bool
   u = view ws .tree .used
 
-  changes-are : run (rulesIn ws) add-remove 2 .changes ≡ more 2 (0x0003 ∷ []) ∷ less 1 (0x0002 ∷ []) ∷ []
+  changes-are : run (rulesIn ws) add-remove 2 .changes ≡ more 2 rule-2 ∷ less 1 rule-1 ∷ []
   changes-are = ap (λ (x : Rules). run x add-remove 2 .changes) is ∙ add-remove-changes
 
   -- the memories after the add and after the remove
-  a : (m : List ℕ) × Changes (more 2 (0x0003 ∷ [])) ws m × Along (less 1 (0x0002 ∷ []) ∷ []) m ws′
-  a = first-of (more 2 (0x0003 ∷ [])) (less 1 (0x0002 ∷ []) ∷ []) (passing r p .book .along) changes-are
+  a : (m : List ℕ) × Changes (more 2 rule-2) ws m × Along (less 1 rule-1 ∷ []) m ws′
+  a = first-of (more 2 rule-2) (less 1 rule-1 ∷ []) (passing r p .book .along) changes-are
 
-  b : (m : List ℕ) × Changes (less 1 (0x0002 ∷ [])) (a .0) m × Along [] m ws′
-  b = first-of (less 1 (0x0002 ∷ [])) [] (a .2) refl
+  b : (m : List ℕ) × Changes (less 1 rule-1) (a .0) m × Along [] m ws′
+  b = first-of (less 1 rule-1) [] (a .2) refl
 
   -- one node is in use before, and one more after the add
   before : tally u 4096 ≡ 1
   before = nodes-in-use ws p ∙ ap nodesOf is ∙ one-node
 
   gained : nodesOf (rulesIn (a .0)) - nodesOf (rulesIn ws) ≡ 1
-  gained = ap₂ (λ (x y : ℕ). x - y) (ap nodesOf (a .1 .rules-are ∙ ap (λ (x : Rules). withRule x 2 (0x0003 ∷ [])) is) ∙ two-nodes) (ap nodesOf is ∙ one-node)
+  gained = ap₂ (λ (x y : ℕ). x - y) (ap nodesOf (a .1 .rules-are ∙ ap (λ (x : Rules). withRule x 2 rule-2) is) ∙ two-nodes) (ap nodesOf is ∙ one-node)
 
   few : (node : ℕ) → node ≤ nodesLimit → tally u node ≤ 1
   few node h =

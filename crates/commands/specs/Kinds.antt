@@ -7,6 +7,7 @@ use native.Mathlib.Omega.{arith}
 use borrow.Author.Tests.{not-true, ltb-true}
 use lib.Dec.{ltb}
 use lib.ListN.{length}
+use Rattle.deciding.specs.Deciding.{both, of-both}
 use Rattle.term.specs.Counting.{true≢false}
 use Rattle.term.specs.Questions.{Mode, variants, instances, generalisations, unifiables}
 use Rattle.term.specs.Machine.{fillsQuestion, fillsRule}
@@ -110,10 +111,6 @@ pub behind-last : (k : ℕ) → length kinds ≤ k → kindAt k ≡ unknown
 unfolding kindAt
 behind-last k h = past-last kinds k h
 
-abbrev pub both : Bool → Bool → Bool
-both true b = b
-both false b = false
-
 abbrev pub orNot : Bool → Bool → Bool
 orNot true b = b
 orNot false b = true
@@ -130,10 +127,6 @@ pub since : (a b : Bool) → orNot a b ≡ true → a ≡ true → b ≡ true
 since true b e f = e
 since false b e f = absurd (true≢false f refl)
 
-pub both-true : (a b : Bool) → both a b ≡ true → (a ≡ true) × (b ≡ true)
-both-true true b e = (refl, e)
-both-true false b e = absurd (true≢false e refl)
-
 -- a test of each row
 abbrev pub every : (ℕ → Kind → Bool) → ℕ → List Kind → Bool
 every test k [] = true
@@ -141,10 +134,10 @@ every test k (row ∷ rows) = both (test k row) (every test (suc k) rows)
 
 at-each : (test : ℕ → Kind → Bool) (rows : List Kind) (from : ℕ) → ((k : ℕ) → length rows + from ≤ k → test k unknown ≡ true) → every test from rows ≡ true → (k : ℕ) → test (k + from) (rowAt rows k) ≡ true
 at-each test [] from u e k = u (k + from) (omega arith)
-at-each test (row ∷ rows) from u e zero = subst (λ (n : ℕ). test n row ≡ true) (let z : from ≡ 0 + from = omega arith in z) (both-true (test from row) _ e .0)
+at-each test (row ∷ rows) from u e zero = subst (λ (n : ℕ). test n row ≡ true) (let z : from ≡ 0 + from = omega arith in z) (of-both (test from row) _ e .0)
 at-each test (row ∷ rows) from u e (suc k) =
     subst (λ (n : ℕ). test n (rowAt rows k) ≡ true) (let z : k + suc from ≡ suc k + from = omega arith in z)
-    (at-each test rows (suc from) (λ j h. u j (omega arith)) (both-true (test from row) _ e .1) k)
+    (at-each test rows (suc from) (λ j h. u j (omega arith)) (of-both (test from row) _ e .1) k)
 
 -- ---- laws of this table
 
@@ -161,7 +154,7 @@ abbrev number-fits : Kind → Bool
 number-fits row = orNot (aboutRule (row .act)) (both (row .known) (not (row .zero)))
 
 suits : (k : ℕ) → (term-fits (kindAt k) ≡ true) × (number-fits (kindAt k) ≡ true)
-suits k = both-true (term-fits (kindAt k)) (number-fits (kindAt k)) (at-kind (λ n row. both (term-fits row) (number-fits row)) (λ _ _. refl) refl k)
+suits k = of-both (term-fits (kindAt k)) (number-fits (kindAt k)) (at-kind (λ n row. both (term-fits row) (number-fits row)) (λ _ _. refl) refl k)
 
 pub term-is : (k : ℕ) → kindAt k .term ≡ aboutTerm (kindAt k .act)
 term-is k = same-true (kindAt k .term) (aboutTerm (kindAt k .act)) (suits k .0)
@@ -169,7 +162,7 @@ term-is k = same-true (kindAt k .term) (aboutTerm (kindAt k .act)) (suits k .0)
 -- a kind that names a rule is known, and any number will do
 pub any-number : (k : ℕ) → aboutRule (kindAt k .act) ≡ true → (kindAt k .known ≡ true) × (kindAt k .zero ≡ false)
 any-number k e =
-    let x = both-true (kindAt k .known) (not (kindAt k .zero)) (since (aboutRule (kindAt k .act)) (both (kindAt k .known) (not (kindAt k .zero))) (suits k .1) e) in
+    let x = of-both (kindAt k .known) (not (kindAt k .zero)) (since (aboutRule (kindAt k .act)) (both (kindAt k .known) (not (kindAt k .zero))) (suits k .1) e) in
     (x .0, not-true (kindAt k .zero) (x .1))
 
 -- only kinds 0 and 1 ever change the book

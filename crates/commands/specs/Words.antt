@@ -6,9 +6,10 @@ use Prim.Native.Nat.{ℕ, _≤_}
 use native.Mathlib.Omega.{arith}
 use borrow.Author.Tests.{eq-eqb, ne-eqb, eqb-true, le-leb, lt-leb, leb-true, le-ltb, ltb-false}
 use lib.Dec.{eqb, leb, ltb}
+use Rattle.deciding.specs.Deciding.{both, of-both}
 use Rattle.term.specs.Counting.{true≢false}
 use Rattle.term.specs.Questions.{Mode, variants, instances, generalisations, unifiables}
-use Rattle.commands.specs.Kinds.{Act, Unknown, Add, Remove, Ask, Show, Room, Kind, ask, unknown, kinds, kindAt, every, both, orNot, same, both-true, same-true, since, at-kind}
+use Rattle.commands.specs.Kinds.{Act, Unknown, Add, Remove, Ask, Show, Room, Kind, ask, unknown, kinds, kindAt, every, orNot, same, same-true, since, at-kind}
 
 abbrev either : Bool → Bool → Bool
 either true b = true
@@ -29,7 +30,7 @@ abbrev question : ℕ → Bool
 question k = both (leb 2 k) (leb k 5)
 
 asked : (k : ℕ) → question k ≡ true → (2 ≤ k) × (k ≤ 5)
-asked k e = let x = both-true (leb 2 k) (leb k 5) e in (leb-true 2 k (x .0), leb-true k 5 (x .1))
+asked k e = let x = of-both (leb 2 k) (leb k 5) e in (leb-true 2 k (x .0), leb-true k 5 (x .1))
 
 asks : (k : ℕ) → 2 ≤ k → k ≤ 5 → question k ≡ true
 asks k h l = rw (le-leb 2 k h, le-leb k 5 l)

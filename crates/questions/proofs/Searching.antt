@@ -19,7 +19,8 @@ use Rattle.tree.specs.Words.{firstOf}
 use Rattle.tree.specs.Trie.{trie, Bounded}
 use Rattle.tree.specs.Unfolded.{height-root}
 use Rattle.tree.specs.Search.{hits}
-use Rattle.book.specs.Memory.{view, term, Passing, rulesIn}
+use Rattle.book.specs.Rules.{Rule}
+use Rattle.book.specs.Memory.{view, ruleAt, Passing, rulesIn}
 use Rattle.book.specs.Holding.{at-holds, holds-at}
 use Rattle.book.specs.Promises.{IsTerm}
 use Rattle.questions.specs.declared.Point.{Point}
@@ -147,7 +148,7 @@ module _ (fq fr : Bool) (ws q : List ℕ) (b : Book ws q) where
       one k n i e =
           let x = found-rule fq fr (blankForm q) wq (view ws) low (b .passing .right) bound n (subst (List·Memᴰ n) whole i) in
           record {
-            term = term (view ws) (x .0);
+            its = ruleAt (view ws) (x .0);
             held = ap (rulesIn ws) (sym e ∙ ap (view ws .tree .cell) (x .1)) ∙ at-holds (view ws) low (b .passing .right) (x .0) (x .2);
             accepted = x .3;
           }
@@ -159,8 +160,10 @@ module _ (fq fr : Bool) (ws q : List ℕ) (b : Book ws q) where
       of : (k : ℕ) → Member marks₀ k ⊎ Answering fq fr ws q k → Member marks₀ k ⊎ ((n : ℕ) × List·Memᴰ n nodes × (view ws .tree .cell n ≡ k))
       of k (inl x) = inl x
       of k (inr x) =
-          let a = holds-at (view ws) k (x .term) (x .held) in
-          inr (nodesLimit + a .place, subst (List·Memᴰ (nodesLimit + a .place)) (sym whole) (rule-found fq fr (blankForm q) wq (view ws) low (b .passing .right) bound (a .place) (a .used) (ap (λ (t : List ℕ). done (run fq fr (at 0 (blankForm q)) (blankForm t))) (a .is) ∙ x .accepted)), a .has)
+          let a = holds-at (view ws) k (x .its) (x .held) in
+          let yes = ap (λ (r : Rule). done (run fq fr (at 0 (blankForm q)) (blankForm (r .term)))) (a .is) ∙ x .accepted in
+          let i = rule-found fq fr (blankForm q) wq (view ws) low (b .passing .right) bound (a .place) (a .used) yes in
+          inr (nodesLimit + a .place, subst (List·Memᴰ (nodesLimit + a .place)) (sym whole) i, a .has)
 
 -- the loop's invariant
 abbrev pub Loop : Bool → Bool → (ws q marks₀ marks : List ℕ) → List Point → ℕ → Type 0

@@ -8,8 +8,8 @@ use lib.ListN.{length, set, drop, length-append, length-drop}
 use Rattle.layout.specs.Layout.{ruleNumbers}
 use Rattle.bits.specs.Numbers.{has, Member, NumberSet, NextNumber}
 use Rattle.tree.specs.Tallies.{tally-le}
-use Rattle.book.specs.Rules.{each}
-use Rattle.questions.specs.Asking.{numbers, keepIf}
+use Rattle.book.specs.Rules.{Rules, each}
+use Rattle.questions.specs.Asking.{numbers, inOrder, keepIf}
 use Rattle.questions.specs.Promises.{Lists}
 use Rattle.questions.specs.Listing.{numbers-skip, numbers-one, numbers-more, numbers-tally}
 
@@ -94,8 +94,9 @@ module _ (marks out₀ out : List ℕ) (n k : ℕ) (w : Written marks out₀ out
         next-n : suc n ≡ n + 1
         next-n = omega arith
 
-  pub written : ruleNumbers ≤ k → Lists marks out₀ out n
-  written h =
+  pub written : ruleNumbers ≤ k → (rules : Rules) → Lists rules marks out₀ out n
+  unfolding inOrder
+  written h rules =
       let e : k ≡ ruleNumbers = omega (arith, w .counted .upto) in
       record { count = all-counted marks n k (w .counted) h; is = w .is ∙ ap (λ (j : ℕ). numbers (has marks) j ++ drop n out₀) e }
 

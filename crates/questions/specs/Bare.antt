@@ -6,7 +6,7 @@ use native.Mathlib.Omega.{arith}
 use Rattle.layout.specs.Layout.{ruleNumbers}
 use Rattle.term.specs.Cells.{Row, Blank, blank, vari, symb, star, Terms, none, more, blankForm}
 use Rattle.term.specs.Questions.{variants, instances, generalisations, unifiables, Filling, fill, Answers}
-use Rattle.book.specs.Rules.{Rules, rule}
+use Rattle.book.specs.Rules.{Rule, rule, Rules}
 use Rattle.book.specs.Gathered.{rule-inj}
 use Rattle.book.specs.Promises.{IsTerm}
 use Rattle.questions.specs.Asking.{answers}
@@ -53,18 +53,22 @@ generalises (symb c ∷ r) w a = absurd (differ (a .1))
     differ : {s : Row Blank} → ¬ (symb c ∷ s ≡ star ∷ [])
     differ e = let z : _≡_ {A = ℕ} 0 1 = cc in omega arith
 
-module _ (rules : Rules) (wr : WholeRules rules) (k : ℕ) (t : List ℕ) (low : k < ruleNumbers) (held : rules k ≡ rule t) where
+module _ (rules : Rules) (wr : WholeRules rules) (k : ℕ) (r : Rule) (low : k < ruleNumbers) (held : rules k ≡ rule r) where
+  abbrev t : List ℕ
+  t = r .term
+
   pub all-instances : List·Memᴰ k (answers instances bare rules)
-  all-instances = lists instances bare rules bare-term wr k .1 (record { low = low; term = t; held = held; answers = instance-of (blankForm t) (term-form t (wr k t held)) })
+  all-instances = lists instances bare rules bare-term wr k .1 (record { low = low; its = r; held = held; answers = instance-of (blankForm t) (term-form t (wr k r held)) })
 
   pub all-unifiables : List·Memᴰ k (answers unifiables bare rules)
-  all-unifiables = lists unifiables bare rules bare-term wr k .1 (record { low = low; term = t; held = held; answers = unifies-with (blankForm t) (term-form t (wr k t held)) })
+  all-unifiables = lists unifiables bare rules bare-term wr k .1 (record { low = low; its = r; held = held; answers = unifies-with (blankForm t) (term-form t (wr k r held)) })
 
   pub bare-variants : List·Memᴰ k (answers variants bare rules) → blankForm t ≡ star ∷ []
   unfolding Answers
-  bare-variants i = let l = lists variants bare rules bare-term wr k .0 i in ap blankForm (rule-inj (sym held ∙ l .held)) ∙ sym (l .answers)
+  bare-variants i = let l = lists variants bare rules bare-term wr k .0 i in ap (λ (x : Rule). blankForm (x .term)) (rule-inj (sym held ∙ l .held)) ∙ sym (l .answers)
 
   pub bare-generalisations : List·Memᴰ k (answers generalisations bare rules) → blankForm t ≡ star ∷ []
   bare-generalisations i =
       let l = lists generalisations bare rules bare-term wr k .0 i in
-      ap blankForm (rule-inj (sym held ∙ l .held)) ∙ generalises (blankForm (l .term)) (term-form (l .term) (wr k (l .term) (l .held))) (l .answers)
+      ap (λ (x : Rule). blankForm (x .term)) (rule-inj (sym held ∙ l .held))
+      ∙ generalises (blankForm (l .its .term)) (term-form (l .its .term) (wr k (l .its) (l .held))) (l .answers)

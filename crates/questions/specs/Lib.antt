@@ -1,4 +1,5 @@
 pub mod Asking
+pub mod Order
 pub mod Demand2
 pub mod Walk
 pub mod Promises

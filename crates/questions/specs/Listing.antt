@@ -13,12 +13,13 @@ use Rattle.term.specs.Questions.{Mode}
 use Rattle.term.specs.Machine.{accepts, fillsQuestion, fillsRule}
 use Rattle.term.specs.Counting.{true≢false}
 use Rattle.tree.specs.Tally.{bit, tally}
-use Rattle.book.specs.Rules.{Held, nothing, rule, each}
-use Rattle.book.specs.Gathered.{each-same, each-split, each-none, rule-inj, not-rule}
+use Rattle.book.specs.Rules.{Rule, Held, nothing, rule, each}
+use Rattle.book.specs.Gathered.{each-split, each-none, rule-inj, not-rule}
 use Rattle.book.specs.Memory.{Passing, rulesIn}
 use Rattle.book.specs.Promises.{IsTerm}
 use Rattle.book.specs.Facts.{limited}
-use Rattle.questions.specs.Asking.{keepIf, numbers, answering, answers, Listed}
+use Rattle.questions.specs.Asking.{keepIf, numbers, inOrder, answering, answers, Listed}
+use Rattle.questions.specs.Order.{as-many, same-marks}
 use Rattle.questions.specs.Demand2.{lists}
 use Rattle.questions.specs.Promises.{Answering, Searched, Asked}
 
@@ -67,27 +68,30 @@ is true false f g = absurd (true≢false (f refl) refl)
 is false true f g = absurd (true≢false (g refl) refl)
 is false false f g = refl
 
--- and where the marks are those of the rules that answer, they are the answers
-pub numbers-answers : (mode : Mode) (ws q marks : List ℕ) → Asked (fillsQuestion mode) (fillsRule mode) ws q marks → numbers (has marks) ruleNumbers ≡ answers mode q (rulesIn ws)
+-- and where the marks are those of the rules that answer, in order they are the answers
+pub marked-answers : (mode : Mode) (ws q marks : List ℕ) → Asked (fillsQuestion mode) (fillsRule mode) ws q marks → inOrder (rulesIn ws) (has marks) ≡ answers mode q (rulesIn ws)
 unfolding answers
-numbers-answers mode ws q marks a = each-same (λ k. keepIf (has marks k) k) (λ k. answering mode q (rulesIn ws k) k) ruleNumbers 0 (λ k x y. same k (rulesIn ws k) refl)
+marked-answers mode ws q marks a = same-marks (rulesIn ws) (has marks) (λ k. answering mode q (rulesIn ws k)) (λ k. same k (rulesIn ws k) refl)
   where
     off : (b : Bool) → ¬ (b ≡ true) → b ≡ false
     off true n = absurd (n refl)
     off false n = refl
 
-    same : (k : ℕ) (h : Held) → rulesIn ws k ≡ h → keepIf (has marks k) k ≡ answering mode q h k
-    same k nothing e = ap (λ (b : Bool). keepIf b k) (off (has marks k) (λ m. not-rule (sym e ∙ a k .0 m .held)))
-    same k (rule t) e = ap (λ (b : Bool). keepIf b k)
-        (is (has marks k) (accepts mode (blankForm q) (blankForm t))
-        (λ m. let x = a k .0 m in subst (λ (s : List ℕ). accepts mode (blankForm q) (blankForm s) ≡ true) (rule-inj (sym (x .held) ∙ e)) (x .accepted))
-        (λ m. a k .1 (record { term = t; held = e; accepted = m })))
+    same : (k : ℕ) (h : Held) → rulesIn ws k ≡ h → has marks k ≡ answering mode q h
+    same k nothing e = off (has marks k) (λ m. not-rule (sym e ∙ a k .0 m .held))
+    same k (rule r) e = is (has marks k) (accepts mode (blankForm q) (blankForm (r .term)))
+        (λ m. let x = a k .0 m in subst (λ (s : Rule). accepts mode (blankForm q) (blankForm (s .term)) ≡ true) (rule-inj (sym (x .held) ∙ e)) (x .accepted))
+        (λ m. a k .1 (record { its = r; held = e; accepted = m }))
+
+-- as many as are marked
+pub marked-many : (mode : Mode) (ws q marks : List ℕ) → Asked (fillsQuestion mode) (fillsRule mode) ws q marks → length (numbers (has marks) ruleNumbers) ≡ length (answers mode q (rulesIn ws))
+marked-many mode ws q marks a = sym (as-many (rulesIn ws) (has marks)) ∙ ap length (marked-answers mode ws q marks a)
 
 -- Demand 2 for a book: what is listed is each rule that is in the relation with the question, and no other.
 pub exactly : (mode : Mode) (ws q marks : List ℕ) → Passing ws → IsTerm q → Asked (fillsQuestion mode) (fillsRule mode) ws q marks
-    → (k : ℕ) → List·Memᴰ k (numbers (has marks) ruleNumbers) ↔ Listed mode q (rulesIn ws) k
+    → (k : ℕ) → List·Memᴰ k (inOrder (rulesIn ws) (has marks)) ↔ Listed mode q (rulesIn ws) k
 exactly mode ws q marks p w a k =
-    let same = numbers-answers mode ws q marks a in
+    let same = marked-answers mode ws q marks a in
     let l = lists mode q (rulesIn ws) w (limited ws p .whole) k in
     ((λ i. l .0 (subst (List·Memᴰ k) same i)), (λ x. subst (List·Memᴰ k) (sym same) (l .1 x)))
 
@@ -95,6 +99,7 @@ exactly mode ws q marks p w a k =
 pub asked-once : (fq fr : Bool) (ws q a b : List ℕ) → Asked fq fr ws q a → Asked fq fr ws q b → (k : ℕ) → has a k ≡ has b k
 asked-once fq fr ws q a b x y k = is (has a k) (has b k) (λ m. y k .1 (x k .0 m)) (λ m. x k .1 (y k .0 m))
 
-pub asked-alike : (mode : Mode) (ws vs q a b : List ℕ) → rulesIn ws ≡ rulesIn vs → Asked (fillsQuestion mode) (fillsRule mode) ws q a → Asked (fillsQuestion mode) (fillsRule mode) vs q b
-    → numbers (has a) ruleNumbers ≡ numbers (has b) ruleNumbers
-asked-alike mode ws vs q a b e x y = numbers-answers mode ws q a x ∙ ap (answers mode q) e ∙ sym (numbers-answers mode vs q b y)
+pub asked-alike : (mode : Mode) (ws vs q a b : List ℕ) → rulesIn ws ≡ rulesIn vs
+    → Asked (fillsQuestion mode) (fillsRule mode) ws q a → Asked (fillsQuestion mode) (fillsRule mode) vs q b
+    → inOrder (rulesIn ws) (has a) ≡ inOrder (rulesIn vs) (has b)
+asked-alike mode ws vs q a b e x y = marked-answers mode ws q a x ∙ ap (answers mode q) e ∙ sym (marked-answers mode vs q b y)

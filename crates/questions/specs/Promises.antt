@@ -15,12 +15,12 @@ use Rattle.tree.specs.Shape.{Used}
 use Rattle.tree.specs.Trie.{Trie, tip, node, trie, height}
 use Rattle.tree.specs.Search.{hits, size}
 use Rattle.tree.specs.Promises.{Onward}
-use Rattle.book.specs.Rules.{rule}
+use Rattle.book.specs.Rules.{Rule, rule, Rules}
 use Rattle.book.specs.Memory.{view, Passing, rulesIn}
 use Rattle.questions.specs.declared.Point.{Point}
 use Rattle.questions.specs.declared.trying.Ways.{Ways}
 use Rattle.questions.specs.declared.turning.Points.{Points}
-use Rattle.questions.specs.Asking.{numbers}
+use Rattle.questions.specs.Asking.{inOrder}
 use Rattle.questions.specs.Walk.{Walk, reading, next, good}
 
 -- At a node whose word is w: the walk before it, and after it.
@@ -201,9 +201,9 @@ pub record Rooted (ws : List ℕ) (l : List Point) : Type 0 where
 
 -- The rule with the number k answers, as the machine decides it.
 pub record Answering (fq fr : Bool) (ws question : List ℕ) (k : ℕ) : Type 0 where
-  pub term : List ℕ
-  pub held : rulesIn ws k ≡ rule term
-  pub accepted : done (run fq fr (at 0 (blankForm question)) (blankForm term)) ≡ true
+  pub its : Rule
+  pub held : rulesIn ws k ≡ rule its
+  pub accepted : done (run fq fr (at 0 (blankForm question)) (blankForm (its .term))) ≡ true
 
 -- The marks afterwards are those before, and the numbers of the rules that answer; no other.
 pub record Searched (fq fr : Bool) (ws question marks marks′ : List ℕ) : Type 0 where
@@ -214,7 +214,7 @@ pub record Searched (fq fr : Bool) (ws question marks marks′ : List ℕ) : Typ
 abbrev pub Asked : Bool → Bool → (ws question marks : List ℕ) → Type 0
 Asked fq fr ws question marks = (k : ℕ) → Member marks k ↔ Answering fq fr ws question k
 
--- The marked numbers are written from the front of the cells, n of them, and the cells behind them stay.
-pub record Lists (marks out out′ : List ℕ) (n : ℕ) : Type 0 where
-  pub count : n ≡ length (numbers (has marks) ruleNumbers)
-  pub is : out′ ≡ numbers (has marks) ruleNumbers ++ drop n out
+-- The marked numbers of these rules are written in order from the front of the cells, n of them, and the cells behind them stay.
+pub record Lists (rules : Rules) (marks out out′ : List ℕ) (n : ℕ) : Type 0 where
+  pub count : n ≡ length (inOrder rules (has marks))
+  pub is : out′ ≡ inOrder rules (has marks) ++ drop n out

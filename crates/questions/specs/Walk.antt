@@ -19,7 +19,6 @@ use Rattle.tree.specs.Search as search
 use Rattle.tree.specs.Leaves.{Leaf, numbered}
 use Rattle.tree.specs.Rows.{passes-tree, up-same}
 use Rattle.book.specs.Memory.{View, taken, number, term, form, leaf, leaves, Right}
-use Rattle.book.specs.Rules.{rule}
 use Rattle.book.specs.Forms.{form-row}
 use Rattle.book.specs.Holding.{hanging, term-at, taken-leaf}
 use Rattle.book.specs.Forms as forms

@@ -3,6 +3,7 @@ ghost use mathlib.Core.Path.{_≡_};
 ghost use Prim.Native.Nat.{_≤_};
 ghost use lib.ListN.{length};
 ghost use Rattle.layout.specs.Layout.{ruleNumbers};
+ghost use Rattle.book.specs.Rules.{Rules};
 ghost use Rattle.bits.specs.Numbers.{NumberSet, has};
 ghost use Rattle.questions.specs.Asking.{numbers};
 ghost use Rattle.questions.specs.Promises.{Lists};
@@ -21,11 +22,12 @@ pub fn count(marks: &[u64]) -> usize
     n
 }
 
-// Writes the marked numbers, ascending, from the front of `out`, and answers how many they are.
+// Writes the marked numbers, ascending, from the front of `out`, and answers how many they are. Ascending is the order of a list,
+// whatever the rules.
 pub fn list(marks: &[u64], out: &mut [u16]) -> usize
     requires { ⌜ NumberSet (now marks) ⌝ }
     requires { ⌜ length (numbers (has (now marks)) ruleNumbers) ≤ length (now out) ⌝ }
-    ensures { λ n. ⌜ Lists (now (marks .entry)) (now (out .entry)) (now (out .exit)) n ⌝ }
+    ensures { λ n. ⌜ ((rules : Rules) → Lists rules (now (marks .entry)) (now (out .entry)) (now (out .exit)) n) ⌝ }
 {
     let mut n: usize = 0;
     let mut s = bits::numbers::first(marks, 0);

@@ -6,6 +6,7 @@ use mathlib.Core.Bool.{Bool, true, false, not}
 use Prim.Native.Nat.{ℕ}
 use lib.Dec.{eqb}
 use lib.ListN.{length}
+use Rattle.deciding.specs.Deciding.{both}
 use Rattle.term.specs.Cells.{Cell, vari, symb, Blank, blankForm}
 
 -- The non-empty beginnings of a row, and of each of some rows.
@@ -16,10 +17,6 @@ inits (c ∷ r) = (c ∷ []) ∷ map (λ p. c ∷ p) (inits r)
 abbrev pub beginnings : {A : Type 0} → List (List A) → List (List A)
 beginnings [] = []
 beginnings (f ∷ fs) = inits f ++ beginnings fs
-
-abbrev pub both : Bool → Bool → Bool
-both true b = b
-both false b = false
 
 abbrev pub either : Bool → Bool → Bool
 either true b = true

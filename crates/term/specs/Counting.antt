@@ -7,7 +7,8 @@ use mathlib.Core.Bool.{Bool, true, false, not}
 use Prim.Native.Nat.{ℕ, suc, _+_}
 use native.Mathlib.Omega.{arith}
 use lib.ListN.{length}
-use Rattle.term.specs.Beginnings.{inits, beginnings, both, either, putIf, sameRow, has, different, nodes, Distinct, Begins}
+use Rattle.deciding.specs.Deciding.{both}
+use Rattle.term.specs.Beginnings.{inits, beginnings, either, putIf, sameRow, has, different, nodes, Distinct, Begins}
 use Rattle.term.specs.Distinct.{put-member, put-keeps, put-adds, put-distinct, as-many, distinct-map}
 
 pub cons-eq : {A : Type 0} {a b : A} {x y : List A} → a ≡ b → x ≡ y → a ∷ x ≡ b ∷ y

@@ -7,10 +7,11 @@ use native.Mathlib.Omega.{arith}
 use lib.Dec.{T, T-not, eqb, eqb→eq}
 use lib.ListN.{length}
 use lib.Seq.{take-length}
+use Rattle.deciding.specs.Deciding.{both}
 use Rattle.term.specs.Cells.{Terms, blankForm}
 use Rattle.term.specs.Reading.{Reading, Whole, Refused, Fault, TooLong, CutShort, FieldSet, AboveFifteen, AboveCount, refusalOf, takes, readFrom, readTerm, readingRefusal, readingCells}
 use Rattle.term.specs.Questions.{Mode, variants, instances, generalisations, unifiables, Answers}
-use Rattle.term.specs.Beginnings.{nodes, nodeCount, both}
+use Rattle.term.specs.Beginnings.{nodes, nodeCount}
 use Rattle.term.specs.Machine.{accepts}
 use Rattle.term.specs.Meaning.{decides}
 use Rattle.term.specs.Whole.{whole-term}

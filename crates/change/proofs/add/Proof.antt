@@ -8,7 +8,7 @@ use lib.ListN.{length, take, drop, length-map, length-take, length-drop}
 use Rattle.layout.specs.Layout.{rulesLimit, treeWords, signsAt, signWords, bookWords}
 use Rattle.tree.specs.Words.{shape}
 use Rattle.tree.specs.Promises.{Hangable, Hung}
-use Rattle.book.specs.Rules.{nothing}
+use Rattle.book.specs.Rules.{Rule, plain, nothing}
 use Rattle.book.specs.declared.Added.the-variants.{Taken}
 use Rattle.book.specs.Memory.{formOf, rulesIn}
 use Rattle.book.specs.Looking.{tree-long}
@@ -31,6 +31,10 @@ rows p = p .before .before .before .before .before .before .before .before .befo
 abbrev free-at : tie.After-plant → tie.After-lowest-free
 free-at p = rows p .before .before
 
+-- the rule that is added
+abbrev its : tie.Start → Rule
+its s = plain (s .args .term .now)
+
 -- the number is new
 new : (f : tie.After-lowest-free) → rulesIn (start f .args .m .now) (start f .args .number) ≡ nothing
 new f =
@@ -48,18 +52,19 @@ returns : tie.Need-returns
 returns c =
     let k = c .before in
     let s = k .before .before .before .before in
-    held-already (s .args .m .now) (s .args .number) (s .args .term .now) (s .pre .0) (k .place-of .result) (placed (s .args .m .now) (s .args .number) (k .place-of .result) (k .place-of .ensures) (c .if1 .taken))
+    held-already (s .args .m .now) (s .args .number) (its s) (s .pre .0) (k .place-of .result)
+    (placed (s .args .m .now) (s .args .number) (k .place-of .result) (k .place-of .ensures) (c .if1 .taken))
 
 returns-2 : tie.Need-returns-2
 returns-2 c =
     let f = c .before in
     let s = start f in
-    book-full (s .args .m .now) (s .args .number) (s .args .term .now) (s .pre .0) (new f) (f .lowest-free .result) (f .lowest-free .ensures) (c .if2 .taken)
+    book-full (s .args .m .now) (s .args .number) (its s) (s .pre .0) (new f) (f .lowest-free .result) (f .lowest-free .ensures) (c .if2 .taken)
 
 short : (f : tie.After-lowest-free) (e : ¬ (f .lowest-free .result ≡ rulesLimit)) → (1 ≤ length (start f .args .term .now)) × (length (start f .args .term .now) ≤ 32)
 short f e =
     let s = start f in
-    let t = term-whole (s .args .m .now) (s .args .number) (s .args .term .now) (s .pre .0) (new f) (f .lowest-free .result) (f .lowest-free .ensures) e (s .pre .1 .1) in
+    let t = term-whole (s .args .m .now) (s .args .number) (its s) (s .pre .0) (new f) (f .lowest-free .result) (f .lowest-free .ensures) e (s .pre .1 .1) in
     (t .some, t .short)
 
 row-requires : tie.Need-row-requires
@@ -73,7 +78,7 @@ descend-requires c κs =
     let r = c .before .before .before .before .before in
     let f = r .before .before in
     let s = start f in (
-      sound (s .args .m .now) (s .args .number) (s .args .term .now) (s .pre .0) (new f) (f .lowest-free .result) (f .lowest-free .ensures) (r .before .if2 .left) (s .pre .1 .1) (s .pre .1 .0),
+      sound (s .args .m .now) (s .args .number) (its s) (s .pre .0) (new f) (f .lowest-free .result) (f .lowest-free .ensures) (r .before .if2 .left) (s .pre .1 .1) (s .pre .1 .0),
       omega (arith, length-take signWords (drop signsAt (s .args .m .now)), length-drop signsAt (s .args .m .now), s .pre .0 .size),
     )
 
@@ -88,7 +93,7 @@ plant-requires c κs =
     let s = start f in
     let h = short f (r .before .if2 .left) in
     let l = form-long r in (
-      sound (s .args .m .now) (s .args .number) (s .args .term .now) (s .pre .0) (new f) (f .lowest-free .result) (f .lowest-free .ensures) (r .before .if2 .left) (s .pre .1 .1) (s .pre .1 .0),
+      sound (s .args .m .now) (s .args .number) (its s) (s .pre .0) (new f) (f .lowest-free .result) (f .lowest-free .ensures) (r .before .if2 .left) (s .pre .1 .1) (s .pre .1 .0),
       (omega (arith, l, h .0), (omega (arith, l, h .1), (d .0, d .1))),
     )
 
@@ -98,7 +103,7 @@ returns-3 c =
     let r = rows p in
     let f = r .before .before in
     let s = start f in
-    no-nodes (s .args .m .now) (s .args .number) (s .args .term .now) (s .pre .0) (new f) (f .lowest-free .result) (f .lowest-free .ensures) (r .before .if2 .left) (s .pre .1 .1) (s .pre .1 .0)
+    no-nodes (s .args .m .now) (s .args .number) (its s) (s .pre .0) (new f) (f .lowest-free .result) (f .lowest-free .ensures) (r .before .if2 .left) (s .pre .1 .1) (s .pre .1 .0)
     (p .plant .last .0) (p .plant .result) _ (form-is r) (p .plant .ensures) (c .if3 .taken)
 
 tree-kept : (p : tie.After-plant) → length (p .plant .last .0) ≡ treeWords
@@ -111,7 +116,7 @@ hang-requires c κs =
     let r = rows p in
     let f = r .before .before in
     let s = start f in
-    let h = hangable (s .args .m .now) (s .args .number) (s .args .term .now) (s .pre .0) (new f) (f .lowest-free .result) (f .lowest-free .ensures) (r .before .if2 .left) (s .pre .1 .1) (s .pre .1 .0)
+    let h = hangable (s .args .m .now) (s .args .number) (its s) (s .pre .0) (new f) (f .lowest-free .result) (f .lowest-free .ensures) (r .before .if2 .left) (s .pre .1 .1) (s .pre .1 .0)
     (p .plant .last .0) (p .plant .result) _ (form-is r) (p .plant .ensures) (e .if3 .left) (tree-kept p) in
     hangs (s .args .m .now) (p .plant .last .0) (tree-kept p) (p .plant .result) (f .lowest-free .result) (s .args .number) (c .wide .result) (c .wide .ensures) h
   where
@@ -153,7 +158,7 @@ put-record-requires c κs =
     let s = start f in
     let e = rows p .before .if2 .left in (
       two h .long ∙ size₁ h,
-      place-low (s .args .m .now) (s .args .number) (s .args .term .now) (s .pre .0) (new f) (f .lowest-free .result) (f .lowest-free .ensures) e,
+      place-low (s .args .m .now) (s .args .number) (its s) (s .pre .0) (new f) (f .lowest-free .result) (f .lowest-free .ensures) e,
       s .pre .1 .0,
       short f e .1,
     )
@@ -169,14 +174,14 @@ module _ (q : tie.After-put-record) where
   long : length (q .put-record .last .0) ≡ bookWords
   long = q .put-record .kept .0 ∙ two hangs .long ∙ size₁ hangs
 
-  takes : Adds (start (free-at plants) .args .m .now) (q .put-record .last .0) (start (free-at plants) .args .number) (start (free-at plants) .args .term .now) Taken
+  takes : Adds (start (free-at plants) .args .m .now) (q .put-record .last .0) (start (free-at plants) .args .number) (its (start (free-at plants))) Taken
   takes =
       let h = hangs in
       let p = plants in
       let r = rows p in
       let f = r .before .before in
       let s = start f in
-      taken-now (s .args .m .now) (s .args .number) (s .args .term .now) (s .pre .0) (new f) (f .lowest-free .result) (f .lowest-free .ensures) (r .before .if2 .left) (s .pre .1 .1) (s .pre .1 .0)
+      taken-now (s .args .m .now) (s .args .number) (its s) (s .pre .0) (new f) (f .lowest-free .result) (f .lowest-free .ensures) (r .before .if2 .left) (s .pre .1 .1) (s .pre .1 .0)
       (p .plant .last .0) (p .plant .result) _ (form-is r) (p .plant .ensures) (h .before .before .before .if3 .left)
       (h .hang .last .0) _ (q .put-record .last .0) _ (one p) (hung h) (two h) (q .put-record .ensures) long
 
@@ -186,7 +191,7 @@ put-signs-requires c κs =
     let p = plants q in
     let f = free-at p in
     let s = start f in
-    (long q, place-low (s .args .m .now) (s .args .number) (s .args .term .now) (s .pre .0) (new f) (f .lowest-free .result) (f .lowest-free .ensures) (rows p .before .if2 .left))
+    (long q, place-low (s .args .m .now) (s .args .number) (its s) (s .pre .0) (new f) (f .lowest-free .result) (f .lowest-free .ensures) (rows p .before .if2 .left))
 
 same-length-4 : tie.Need-same-length-4
 same-length-4 c =

@@ -8,6 +8,7 @@ use borrow.Rule.Slice.PartMut.{putMid}
 use lib.ListN.{length, set, take, drop, length-take, length-drop}
 use Rattle.layout.specs.Layout.{placesAt, placeWords, termWords, recordWords, termsAt, bookWords}
 use Rattle.bits.specs.Packed.{fields}
+use Rattle.book.specs.Rules.{plain}
 use Rattle.change.proofs.Storing.{stored, stored-long, two-long, term-long}
 use Rattle.change.proofs.put_record.Statement.{statement}
 use Rattle.change.proofs.put_record.Tie as tie
@@ -45,12 +46,12 @@ module _ (c : tie.After-slice-known3) where
 
 same-length : tie.Need-same-length
 same-length c =
-    stored-long (s c .args .m .now) (f c .put-field .last .0) (z c .store .last .0) (s c .args .number) (s c .args .r) (length (s c .args .term .now)) (s c .args .term .now)
+    stored-long (s c .args .m .now) (f c .put-field .last .0) (z c .store .last .0) (s c .args .number) (s c .args .r) (length (s c .args .term .now)) (plain (s c .args .term .now))
     (s c .pre .0) (s c .pre .1) (s c .pre .2) (lp c) (fp c) refl (termsAt + recordWords * s c .args .r + termWords - (termsAt + recordWords * s c .args .r)) (omega arith) (lq c) (z c .store .ensures)
 
 returns : tie.Need-returns
 returns c =
-    stored (s c .args .m .now) (f c .put-field .last .0) (z c .store .last .0) (s c .args .number) (s c .args .r) (length (s c .args .term .now)) (s c .args .term .now)
+    stored (s c .args .m .now) (f c .put-field .last .0) (z c .store .last .0) (s c .args .number) (s c .args .r) (length (s c .args .term .now)) (plain (s c .args .term .now))
     (s c .pre .0) (s c .pre .1) (s c .pre .2) (lp c) (fp c) refl (termsAt + recordWords * s c .args .r + termWords - (termsAt + recordWords * s c .args .r)) (omega arith) (lq c) (z c .store .ensures)
 
 pub put-record-spec : {M : Type 1} → statement M

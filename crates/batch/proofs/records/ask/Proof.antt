@@ -18,7 +18,7 @@ use Rattle.term.specs.Questions.{Mode}
 use Rattle.commands.specs.Kinds.{modeOf}
 use Rattle.batch.specs.Effects.{asks}
 use Rattle.commands.specs.Writing.{no-room, cells-then}
-use Rattle.batch.proofs.Doing.{these, as-many, listed-are, never-many}
+use Rattle.batch.proofs.Doing.{how-many, as-many, listed-are, never-many}
 use Rattle.batch.proofs.records.ask.Statement.{statement}
 use Rattle.batch.proofs.records.ask.Tie as tie
 
@@ -44,8 +44,8 @@ module _ (r : tie.After-mark-answers) where
   map : NumberSet marks
   map = r .mark-answers .ensures .map
 
-  answers-are : numbers (has marks) 4096 ≡ answers (mode) (s .args .question .now) (rulesIn (s .args .book .now))
-  answers-are = these (s .args .book .now) (s .args .question .now) marks fq fr answering
+  marked-many : length (numbers (has marks) 4096) ≡ length (answers mode (s .args .question .now) (rulesIn (s .args .book .now)))
+  marked-many = how-many (s .args .book .now) (s .args .question .now) marks fq fr answering
 
   few : length (numbers (has marks) 4096) ≤ rulesLimit
   few = never-many (s .args .book .now) (s .args .question .now) marks fq fr answering (s .pre .0)
@@ -54,7 +54,9 @@ returns : tie.Need-returns
 returns c =
     let out = s (c .before .before .before .before .before) .args .out .now in
     let h = ltb-false (length (numbers (has (marks (c .before .before .before .before .before))) 4096)) (length out) (sym (c .before .has-room .ensures) ∙ not-true _ (c .if1 .taken)) in
-    no-room (asks (rulesIn (s (c .before .before .before .before .before) .args .book .now)) (mode (c .before .before .before .before .before)) (s (c .before .before .before .before .before) .args .question .now) .answer) out (subst (λ (n : ℕ). length out ≤ n) (ap length (answers-are (c .before .before .before .before .before))) h)
+    let t = s (c .before .before .before .before .before) in
+    no-room (asks (rulesIn (t .args .book .now)) (mode (c .before .before .before .before .before)) (t .args .question .now) .answer) out
+    (subst (λ (n : ℕ). length out ≤ n) (marked-many (c .before .before .before .before .before)) h)
 
 -- the list has room
 room : (e : tie.Else1) → length (numbers (has (marks (e .before .before .before .before .before))) 4096) < length (s (e .before .before .before .before .before) .args .out .now)
@@ -84,10 +86,10 @@ module _ (c : tie.After-slice-known5) where
   put-long = same-len-mid 1 (length out - 1) out (c .before .before .list .last .1 .0) (c .before .before .list .kept .1 .0)
 
   count-is : c .before .before .list .result ≡ length (answers (mode a) (s a .args .question .now) (rulesIn (s a .args .book .now)))
-  count-is = as-many (s a .args .book .now) (s a .args .question .now) (marks a) (fq a) (fr a) (answering a) _ _ _ (c .before .before .list .ensures)
+  count-is = as-many (s a .args .book .now) (s a .args .question .now) (marks a) (fq a) (fr a) (answering a) _ _ _ (c .before .before .list .ensures (rulesIn (s a .args .book .now)))
 
   low : c .before .before .list .result ≤ 512
-  low = let h = few a in omega (arith, c .before .before .list .ensures .count)
+  low = let h = few a in omega (arith, count-is, marked-many a)
 
 cast-out : tie.Need-cast-out
 cast-out c = let h = low c in omega arith
@@ -110,8 +112,9 @@ returns-2 c =
     let m = count-is c in
     let n = c .before .before .list .result in
     cells-then (asks (rulesIn (t .args .book .now)) (mode (a c)) (t .args .question .now) .answer) n (first n _ m) (out c) (c .before .before .list .last .1 .0) (length (out c) - 1) (n + 1)
-    (subst (λ (k : ℕ). k < length (out c)) (ap length (answers-are (a c))) (room (c .before .before .before .before .before))) refl (ap (λ (j : ℕ). j + 1) m)
-    (listed-are (t .args .book .now) (t .args .question .now) (marks (a c)) (fq (a c)) (fr (a c)) (answering (a c)) _ _ _ (c .before .before .list .ensures))
+    (subst (λ (k : ℕ). k < length (out c)) (marked-many (a c)) (room (c .before .before .before .before .before))) refl (ap (λ (j : ℕ). j + 1) m)
+    (listed-are (t .args .book .now) (t .args .question .now) (marks (a c)) (fq (a c)) (fr (a c)) (answering (a c)) _ _ _
+    (c .before .before .list .ensures (rulesIn (t .args .book .now))))
   where
     first : (n k : ℕ) → n ≡ k → n ≡ 4096 * 0 + k
     first n k e = omega arith
