@@ -3,7 +3,7 @@ use mathlib.Core.Path.{_≡_}
 use mathlib.Core.List.{List, [], _∷_, _++_}
 use Prim.Native.Nat.{ℕ, _≤_, _<_}
 use lib.ListN.{length, drop}
-use Rattle.tree.specs.Shape.{Shape}
+use Rattle.shape.specs.Shape.{Shape}
 use Rattle.book.specs.Rules.{Rules}
 use Rattle.book.specs.Memory.{view, Passing, rulesIn}
 use Rattle.change.specs.Promises.{TakesLowest, TakesNone}

@@ -16,13 +16,13 @@ use Rattle.term.specs.Beginnings.{putIf, Begins}
 use Rattle.term.specs.Counting.{true≢false}
 use Rattle.term.specs.Whole.{whole-alone}
 use Rattle.term.specs.declared.reading.Reading.the-variants.{Whole}
-use Rattle.tree.specs.Shape.{Used, Up, Passes}
-use Rattle.tree.specs.Rows.{up-same, up-one}
-use Rattle.tree.specs.Tally.{tally}
-use Rattle.tree.specs.Tallies.{listed, tally-le}
-use Rattle.tree.specs.Leaves.{ends, bases, numbered}
-use Rattle.tree.specs.NodeCount.{Numbered}
-use Rattle.tree.specs.Limits.{used-low, nodeMap, nodes-held, empty-words}
+use Rattle.shape.specs.Shape.{Used, Up, Passes}
+use Rattle.shape.specs.Rows.{up-same, up-one}
+use Rattle.shape.specs.Tally.{tally}
+use Rattle.shape.specs.Tallies.{listed, tally-le}
+use Rattle.shape.specs.Leaves.{ends, bases, numbered}
+use Rattle.shape.specs.NodeCount.{Numbered}
+use Rattle.links.specs.Limits.{used-low, nodeMap, nodes-held, empty-words}
 use Rattle.book.specs.Rules.{Rule, nothing, rule, Rules, isHeld, noRules, terms, ruleCount, nodesOf}
 use Rattle.book.specs.Memory.{view, taken, number, term, ruleAt, formOf, leaf, leaves, heldAt, Passing, rulesIn}
 use Rattle.book.specs.Holding.{hanging, holds-at, number-low, term-size, base-forms, nodes-tally, rules-tally, count-tally}

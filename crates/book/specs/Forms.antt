@@ -10,7 +10,7 @@ use Rattle.term.specs.Cells.{symb, Row, Blank, blank, star, Terms, blankOf, bla
 use Rattle.term.specs.Beginnings.{nodes, sameCell, nodeCount}
 use Rattle.term.specs.Counting.{nodes-map, cons-eq}
 use Rattle.term.specs.Preorder.{same-rest}
-use Rattle.tree.specs.NodeCount.{node-count}
+use Rattle.shape.specs.NodeCount.{node-count}
 use Rattle.book.specs.Memory.{blankNumber, formOf}
 
 -- a number is a symbol's or a variable's

@@ -13,12 +13,12 @@ use Rattle.layout.specs.Layout.{ruleNumbers, nodesLimit, rulesLimit, lastLink}
 use Rattle.term.specs.Distinct.{as-many, distinct-map}
 use Rattle.term.specs.Counting.{true≢false, nodes-same}
 use Rattle.term.specs.Whole.{TermAt, whole-term}
-use Rattle.tree.specs.Basics.{eqb-exact}
-use Rattle.tree.specs.Shape.{Used, End}
-use Rattle.tree.specs.Tally.{tally}
-use Rattle.tree.specs.Tallies.{listed, length-listed, of-listed, to-listed, listed-distinct}
-use Rattle.tree.specs.Leaves.{Leaf, endOf, ends, bases, Hanging, numbered}
-use Rattle.tree.specs.NodeCount.{nodes-are}
+use Rattle.shape.specs.Basics.{eqb-exact}
+use Rattle.shape.specs.Shape.{Used, End}
+use Rattle.shape.specs.Tally.{tally}
+use Rattle.shape.specs.Tallies.{listed, length-listed, of-listed, to-listed, listed-distinct}
+use Rattle.shape.specs.Leaves.{Leaf, endOf, ends, bases, Hanging, numbered}
+use Rattle.shape.specs.NodeCount.{nodes-are}
 use Rattle.book.specs.Rules.{Rule, Held, nothing, rule, Rules, isHeld, termsOf, each, terms, ruleCount, nodesOf}
 use Rattle.book.specs.Gathered.{terms-standing, rule-inj, not-rule}
 use Rattle.book.specs.Memory.{View, taken, number, term, ruleAt, form, formOf, leaf, leaves, heldAt, rulesOf, Right}
@@ -172,7 +172,7 @@ count-tally rules = go ruleNumbers
         ap (λ (z : List (List ℕ)). f k ++ z) (snoc n (suc k) ∙ ap (λ (z : ℕ). each f n (suc k) ++ f z) (omega arith))
         ∙ sym (mathlib.Core.List.append-assoc (f k) (each f n (suc k)) (f (k + suc n)))
 
-    one : (h : Held) → length (termsOf h) ≡ Rattle.tree.specs.Tally.bit (isHeld h)
+    one : (h : Held) → length (termsOf h) ≡ Rattle.shape.specs.Tally.bit (isHeld h)
     one nothing = refl
     one (rule r) = refl
 

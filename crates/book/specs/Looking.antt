@@ -11,10 +11,10 @@ use lib.Seq.{ext-getD, getD-take, getD-drop}
 use Rattle.deciding.specs.Deciding.{pick, both}
 use Rattle.layout.specs.Layout.{nodeMapWords, ruleMapWords, nodesLimit, rulesLimit, ruleMapAt, linksAt, rulesAt, lastLink, treeWords, bookWords}
 use Rattle.bits.specs.Packed.{bits, sum}
-use Rattle.tree.specs.Words.{cellOf}
-use Rattle.tree.specs.Tally.{marked}
-use Rattle.tree.specs.Limits.{rule-bit, nodes-held, rules-held, used-low}
-use Rattle.tree.specs.Shape.{Used}
+use Rattle.links.specs.Words.{cellOf}
+use Rattle.shape.specs.Tally.{marked}
+use Rattle.links.specs.Limits.{rule-bit, nodes-held, rules-held, used-low}
+use Rattle.shape.specs.Shape.{Used}
 use Rattle.book.specs.Memory.{view, taken, number, Passing, rulesIn}
 use Rattle.book.specs.Holding.{rules-tally, nodes-tally, count-tally}
 use Rattle.book.specs.Promises.{placeOf, Counts}

@@ -11,10 +11,10 @@ use Rattle.bits.specs.Packed.{fields}
 use Rattle.term.specs.Cells.{blankOf, numberOf}
 use Rattle.term.specs.Reading.{readTerm}
 use Rattle.term.specs.declared.reading.Reading.the-variants.{Whole}
-use Rattle.tree.specs.Shape.{Shape, Passes}
-use Rattle.tree.specs.Words.{shape}
-use Rattle.tree.specs.Tallies.{listed}
-use Rattle.tree.specs.Leaves.{Leaf, ends}
+use Rattle.shape.specs.Shape.{Shape, Passes}
+use Rattle.links.specs.Words.{shape}
+use Rattle.shape.specs.Tallies.{listed}
+use Rattle.shape.specs.Leaves.{Leaf, ends}
 use Rattle.book.specs.Rules.{Rule, nothing, rule, Rules}
 
 -- What memory says: the tree with the rules that hang in it, and for each rule number the place of its record, for each

@@ -98,7 +98,7 @@ pub fn place_of(m: &[u64], number: u16) -> usize
     if !bits::is_marked(&m[layout::RULE_MAP_AT..layout::MAP_WORDS], r) {
         return Book::RULES;
     }
-    if tree::cell_of(m[layout::RULES_AT + r]) != wide(number) {
+    if links::cell_of(m[layout::RULES_AT + r]) != wide(number) {
         return Book::RULES;
     }
     r

@@ -17,17 +17,17 @@ use Rattle.bits.specs.Laws.{length-bits, bit-low}
 use Rattle.term.specs.Cells.{Terms, blankForm}
 use Rattle.term.specs.Counting.{true≢false}
 use Rattle.term.specs.Whole.{TermAt, whole-term}
-use Rattle.tree.specs.Basics.{up-live}
-use Rattle.tree.specs.Shape.{Shape, Used}
-use Rattle.tree.specs.Rows.{passes-tree}
-use Rattle.tree.specs.Tally.{tally}
-use Rattle.tree.specs.Tallies.{tally-all, tally-le, as-many-all}
-use Rattle.tree.specs.Words.{shape}
-use Rattle.tree.specs.Change.{Grown, none, more}
+use Rattle.shape.specs.Basics.{up-live}
+use Rattle.shape.specs.Shape.{Shape, Used}
+use Rattle.shape.specs.Rows.{passes-tree}
+use Rattle.shape.specs.Tally.{tally}
+use Rattle.shape.specs.Tallies.{tally-all, tally-le, as-many-all}
+use Rattle.links.specs.Words.{shape}
+use Rattle.shape.specs.Change.{Grown, none, more}
 use Rattle.tree.specs.Promises.{Sound, Planted, Hangable, Hung}
-use Rattle.tree.specs.Partly.{Partly, grown-rules}
+use Rattle.shape.specs.Partly.{Partly, grown-rules}
 use Rattle.tree.specs.Plant.{planted-partly, planted-full, planted-fits, no-rule}
-use Rattle.tree.specs.Leaves.{Leaf, bases, ends, Hanging}
+use Rattle.shape.specs.Leaves.{Leaf, bases, ends, Hanging}
 use Rattle.book.specs.Rules.{Rule, Held, nothing, rule, Rules, isHeld, withRule, terms, ruleCount, nodesOf, judged}
 use Rattle.book.specs.declared.Added.{Added as Answer}
 use Rattle.book.specs.declared.Added.the-variants as answer
@@ -142,7 +142,7 @@ module _ (ws : List ℕ) (k : ℕ) (it : Rule) (p : Passing ws) where
         hang = hanging (view ws) low (p .right)
 
         leaf-at : (x : Leaf) → List·Memᴰ x (leaves (view ws)) → (j : ℕ) × (taken (view ws) j ≡ true) × (leaf (view ws) j ≡ x)
-        leaf-at x i = let q = Memᴰ·of-map (leaf (view ws)) _ i in (q .0, Rattle.tree.specs.Tallies.of-listed (taken (view ws)) rulesLimit (q .1) .0, q .2)
+        leaf-at x i = let q = Memᴰ·of-map (leaf (view ws)) _ i in (q .0, Rattle.shape.specs.Tallies.of-listed (taken (view ws)) rulesLimit (q .1) .0, q .2)
 
         old-terms : (j : ℕ) → taken (view ws) j ≡ true → Terms 1 (blankForm (term (view ws) j))
         old-terms j u = term-at (view ws) low (p .right) j u .form
@@ -210,7 +210,7 @@ module _ (ws : List ℕ) (k : ℕ) (it : Rule) (p : Passing ws) where
             planted : Planted (take treeWords ws) t₁ (formOf t) l
             planted = subst (λ (f : List ℕ). Planted (take treeWords ws) t₁ f l) ef pl
 
-            nodes-is : nodesOf rules′ ≡ Rattle.tree.specs.NodeCount.node-count forms
+            nodes-is : nodesOf rules′ ≡ Rattle.shape.specs.NodeCount.node-count forms
             unfolding forms
             nodes-is = count-forms (terms rules′)
 

@@ -12,15 +12,15 @@ use Rattle.deciding.specs.Deciding.{pick}
 use Rattle.layout.specs.Layout.{nodesLimit, treeWords, placesAt, placeWords, termWords, recordWords, recordsAt, termsAt, bookWords}
 use Rattle.bits.specs.Packed.{fields}
 use Rattle.term.specs.Counting.{true≢false}
-use Rattle.tree.specs.Words.{shape}
-use Rattle.tree.specs.Shape.{Shape}
+use Rattle.links.specs.Words.{shape}
+use Rattle.shape.specs.Shape.{Shape}
 use Rattle.book.specs.Rules.{nothing, withoutRule, removal}
 use Rattle.book.specs.Memory.{view, Passing, rulesIn}
 use Rattle.book.specs.declared.Removed.the-variants.{Gone, NotHeld}
 use Rattle.change.specs.Promises.{Removes}
 use Rattle.change.specs.Change.{removed-right, removed-rules}
 use Rattle.change.specs.Change.{Removed as Taken-away}
-use Rattle.tree.specs.Change.{Trimmed, root, stays, goes}
+use Rattle.shape.specs.Change.{Trimmed, root, stays, goes}
 use Rattle.book.specs.Parts.{Elsewhere, window, front-part, front-is}
 use Rattle.book.specs.Looking.{nodes-low}
 use Rattle.book.specs.Placing.{Placed}

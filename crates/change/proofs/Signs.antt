@@ -8,8 +8,8 @@ use lib.ListN.{length, getD, take, drop, length-take, length-drop}
 use borrow.Rule.Slice.PartMut.{putMid}
 use Rattle.layout.specs.Layout.{treeWords, signsAt, signWords, placesAt, placeWords, termWords, recordWords, recordsAt, termsAt, bookWords}
 use Rattle.bits.specs.Packed.{fields}
-use Rattle.tree.specs.Words.{shape}
-use Rattle.tree.specs.Shape.{Shape}
+use Rattle.links.specs.Words.{shape}
+use Rattle.shape.specs.Shape.{Shape}
 use Rattle.book.specs.declared.Added.the-variants.{Taken}
 use Rattle.book.specs.Rules.{Rule}
 use Rattle.book.specs.Memory.{View, view, rulesOf, Right}

@@ -10,7 +10,7 @@ use lib.Seq.{getD-set-same, getD-set-other}
 use borrow.Rule.Slice.PartMut.{putMid}
 use Rattle.layout.specs.Layout.{ruleNumbers, rulesLimit, treeWords, placesAt, placeWords, termWords, recordWords, recordsAt, termsAt, bookWords}
 use Rattle.bits.specs.Packed.{fields}
-use Rattle.tree.specs.Words.{shape}
+use Rattle.links.specs.Words.{shape}
 use Rattle.book.specs.Rules.{Rule}
 use Rattle.book.specs.Memory.{view}
 use Rattle.change.specs.Promises.{Stores}

@@ -16,14 +16,14 @@ use Rattle.term.specs.Counting.{true≢false}
 use Rattle.term.specs.Reading.{readTerm}
 use Rattle.term.specs.declared.reading.Reading.the-variants.{Whole}
 use Rattle.term.specs.Whole.{whole-alone}
-use Rattle.tree.specs.Basics.{up-used}
-use Rattle.tree.specs.Shape.{Shape, Used, On, End, Passes, Joins}
-use Rattle.tree.specs.Rows.{on-row, end-on, end-childless}
-use Rattle.tree.specs.Change.{Trimmed}
+use Rattle.shape.specs.Basics.{up-used}
+use Rattle.shape.specs.Shape.{Shape, Used, On, End, Passes, Joins}
+use Rattle.shape.specs.Rows.{on-row, end-on, end-childless}
+use Rattle.shape.specs.Change.{Trimmed}
 use Rattle.tree.specs.Promises.{Hung}
-use Rattle.tree.specs.Partly.{Partly, Left, link-partly, ended-new, left-of, trimmed-passes, trimmed-kept, trimmed-gone, passes-same}
-use Rattle.tree.specs.Tallies.{listed}
-use Rattle.tree.specs.Leaves.{endOf, ends, Hanging, rows-free}
+use Rattle.shape.specs.Partly.{Partly, Left, link-partly, ended-new, left-of, trimmed-passes, trimmed-kept, trimmed-gone, passes-same}
+use Rattle.shape.specs.Tallies.{listed}
+use Rattle.shape.specs.Leaves.{endOf, ends, Hanging, rows-free}
 use Rattle.book.specs.Rules.{Rule, Held, nothing, rule, withRule, withoutRule}
 use Rattle.book.specs.Gathered.{not-rule}
 use Rattle.book.specs.Memory.{View, taken, number, term, ruleAt, form, formOf, leaf, leaves, rulesOf, Recorded, Right}

@@ -5,7 +5,7 @@ use mathlib.Core.Bool.{true, false}
 use Prim.Native.Nat.{ℕ, _-_, _<_}
 use lib.ListN.{length, replicate}
 use Rattle.layout.specs.Layout.{nodesLimit}
-use Rattle.tree.specs.Shape.{Shape}
+use Rattle.shape.specs.Shape.{Shape}
 use Rattle.book.specs.declared.Added.{Added}
 use Rattle.book.specs.declared.Added.the-variants.{Taken}
 use Rattle.book.specs.declared.Removed.{Removed}

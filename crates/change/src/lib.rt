@@ -63,8 +63,8 @@ fn put_signs(m: &mut [u64], r: usize)
     requires { ⌜ (length (now m) ≡ bookWords) × (r < rulesLimit) ⌝ }
     ensures { λ _. ⌜ view (now (m .exit)) ≡ view (now (m .entry)) ⌝ }
 {
-    let at = tree::signs::highest(&m[0..layout::TREE_WORDS], layout::FIRST_RULE + r);
-    let ended = tree::signs::list_ended(&m[0..layout::TREE_WORDS], at);
+    let at = links::signs::highest(&m[0..layout::TREE_WORDS], layout::FIRST_RULE + r);
+    let ended = links::signs::list_ended(&m[0..layout::TREE_WORDS], at);
     put_sign(m, at, ended);
     let first = field_for(m, at, 0);
     put_sign(m, at, first);
@@ -79,7 +79,7 @@ fn field_for(m: &[u64], at: usize, i: usize) -> usize
     requires { ⌜ (length (now m) ≡ bookWords) × (at ≤ lastLink) ⌝ }
     ensures { λ k. ⌜ k < signFields ⌝ }
 {
-    tree::signs::field_for(
+    links::signs::field_for(
         &m[0..layout::TREE_WORDS],
         &m[layout::SIGNS_AT..layout::SIGNS_END],
         at,

@@ -45,7 +45,7 @@ use Rattle.claggyfoot.specs.Refusals.{Adds-term, Names-rule, Held-alread
 use Rattle.claggyfoot.specs.AtCommand.{memory, limits, answered, stops-exactly, refused-exactly, ten, gone-on, fault-exactly, add-exactly, nodes-taken, idle, idle-stays, idle-keeps}
 use Rattle.claggyfoot.specs.Naming.{Gave, Told, enter-1, enter-11, enter-12, enter-held, enter-new, name-of-1, name-of-13, name-of-held}
 use Rattle.claggyfoot.specs.Numbers.{EntersNumbers, PartNumbers, ChecksNumber, passing as passing-number, failing}
-pub use Rattle.claggyfoot.specs.Numbers.{enters-numbers-once, stands-numbers-once, checks-number-once}
+pub use Rattle.claggyfoot.specs.Numbers.{enters-numbers-once, part-numbers-once, checks-number-once}
 
 -- ==== Demand 1: each refusal in the list comes exactly when its condition and the order call for it
 

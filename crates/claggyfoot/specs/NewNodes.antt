@@ -8,8 +8,8 @@ use native.Mathlib.Omega.{arith}
 use native.Mathlib.Decide.{ℕ-discrete}
 use Rattle.layout.specs.Layout.{nodesLimit}
 use Rattle.term.specs.Counting.{true≢false}
-use Rattle.tree.specs.Tally.{bit, tally}
-use Rattle.tree.specs.Tallies.{bit-le, tally-all, tally-le}
+use Rattle.shape.specs.Tally.{bit, tally}
+use Rattle.shape.specs.Tallies.{bit-le, tally-all, tally-le}
 use Rattle.book.specs.Rules.{nodesOf}
 use Rattle.book.specs.Memory.{view, Passing, rulesIn}
 use Rattle.change.specs.Promises.{TakesLowest}

@@ -39,13 +39,13 @@ pub record PartNumbers (table : List ℕ) (number refusal start size : ℕ) : Ty
   pub size-is : size ≡ partSize part
 
 -- It allows one outcome.
-pub record SamePlace (a b c d e f : ℕ) : Type 0 where
+pub record SamePart (a b c d e f : ℕ) : Type 0 where
   pub refusal : a ≡ b
   pub start : c ≡ d
   pub size : e ≡ f
 
-pub stands-numbers-once : {t : List ℕ} {number : ℕ} (a b c d e f : ℕ) → PartNumbers t number a c e → PartNumbers t number b d f → SamePlace a b c d e f
-stands-numbers-once a b c d e f p q =
+pub part-numbers-once : {t : List ℕ} {number : ℕ} (a b c d e f : ℕ) → PartNumbers t number a c e → PartNumbers t number b d f → SamePart a b c d e f
+part-numbers-once a b c d e f p q =
     let same = part-once (p .part) (q .part) (p .stands) (q .stands) in
     record {
       refusal = p .refusal-is ∙ ap partRefusal same ∙ sym (q .refusal-is);

@@ -9,7 +9,7 @@ use lib.ListN.{length, replicate, drop}
 use Rattle.layout.specs.Layout.{bookWords, nodesLimit}
 use Rattle.term.specs.Reading.{readTerm, readFrom, takes}
 use Rattle.term.specs.Beginnings.{nodes}
-use Rattle.tree.specs.Tally.{bit, tally}
+use Rattle.shape.specs.Tally.{bit, tally}
 use Rattle.book.specs.Rules.{Rule, plain, nothing, Rules, each, noRules, withRule, nodesOf}
 use Rattle.book.specs.Gathered.{not-rule}
 use Rattle.book.specs.Memory.{view, Passing, rulesIn}

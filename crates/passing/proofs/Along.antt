@@ -8,17 +8,17 @@ use native.Mathlib.Decide.{decLt}
 use lib.ListN.{length, getD, take}
 use Rattle.layout.specs.Layout.{ruleNumbers, nodesLimit, linksAt, firstRule, rulesAt, lastLink, treeWords}
 use Rattle.term.specs.Counting.{true≢false}
-use Rattle.tree.specs.Shape.{after, Used, Fits}
-use Rattle.tree.specs.Rows.{end-childless}
-use Rattle.tree.specs.Leaves.{endOf, rows-free}
-use Rattle.tree.specs.Tally.{tally, marked}
-use Rattle.tree.specs.Tallies.{tally-more}
-use Rattle.tree.specs.Words.{cellOf, parentOf, firstOf, nextOf, word}
-use Rattle.tree.specs.Stops.{Standing, go-along}
+use Rattle.shape.specs.Shape.{after, Used, Fits}
+use Rattle.shape.specs.Rows.{end-childless}
+use Rattle.shape.specs.Leaves.{endOf, rows-free}
+use Rattle.shape.specs.Tally.{tally, marked}
+use Rattle.shape.specs.Tallies.{tally-more}
+use Rattle.links.specs.Words.{cellOf, parentOf, firstOf, nextOf, word}
+use Rattle.shape.specs.Stops.{Standing, go-along}
 use Rattle.book.specs.Memory.{view, leaf, taken}
 use Rattle.book.specs.Holding.{hanging, taken-leaf}
 use Rattle.passing.specs.Wanted.{Hangs, Told, Bare, ended-right}
-use Rattle.passing.specs.State.{AtPlace, AllFound, Sizes, AskedRule, RuleEntered, Ruled}
+use Rattle.passing.specs.State.{AtHook, AllFound, Sizes, AskedRule, RuleEntered, Ruled}
 use Rattle.book.specs.Looking.{nodes-low, rule-number}
 use Rattle.passing.proofs.Downing.{node-word, meets, no-dead-end, kept-counts, wanted-is}
 use Rattle.passing.proofs.Ruling.{rule-hangs, hangs-rule}
@@ -27,11 +27,11 @@ use Rattle.recorded.specs.Promises.{RuleAt, RuleDecided}
 
 pub record Ruling (ws left₀ left way ks stack : List ℕ) (x p low depth top : ℕ) : Type 0 where
   pub sizes : Sizes ws left way ks stack
-  pub at : AtPlace ws left way ks stack x p low depth top
+  pub at : AtHook ws left way ks stack x p low depth top
   pub whole : wants (at .row) ≡ 0
   pub fewer : tally (marked left) lastLink ≤ tally (marked left₀) lastLink
 
-pub rules-start : (ws left way ks stack : List ℕ) (x p low depth top : ℕ) → Sizes ws left way ks stack → AtPlace ws left way ks stack x p low depth top → getD ks depth 0 % 65536 ≡ 0
+pub rules-start : (ws left way ks stack : List ℕ) (x p low depth top : ℕ) → Sizes ws left way ks stack → AtHook ws left way ks stack x p low depth top → getD ks depth 0 % 65536 ≡ 0
     → Ruling ws left left way ks stack x p low depth top
 rules-start ws left way ks stack x p low depth top s a e = record {
   sizes = s;
@@ -64,7 +64,7 @@ module _ (ws left₀ left way ks stack : List ℕ) (x p low depth top : ℕ) (i 
         go zero e = absurd (no-dead-end ws left way ks stack x p low depth top (i .sizes) (i .at) f e)
         go (suc n) e = by (decLt n nodesLimit)
           where
-            q : Fits (view ws .tree) (i .at .place) n × (marked left n ≡ true) × Told (view ws) n (view ws .tree .cell n ∷ i .at .row)
+            q : Fits (view ws .tree) (i .at .hook) n × (marked left n ≡ true) × Told (view ws) n (view ws .tree .cell n ∷ i .at .row)
             q = meets ws left way ks stack x p low depth top (i .sizes) (i .at) f n (i .at .leads ∙ e)
 
             is : word (take treeWords ws) (suc n) ≡ getD ws (linksAt + x) 0
@@ -126,7 +126,7 @@ module _ (ws left₀ left way ks stack : List ℕ) (x p low depth top : ℕ) (i 
       }
 
       standing : Standing (view ws .tree) Bare (Told (view ws)) (after (x - 1)) (i .at .row) (i .at .stops) (marked left′)
-      standing = go-along (view ws .tree) Bare (Told (view ws)) (marked left) (i .at .place) (i .at .row) (i .at .stops) (i .at .standing) (x - 1) (i .at .leads ∙ sym up-one) (rule-asked .was)
+      standing = go-along (view ws .tree) Bare (Told (view ws)) (marked left) (i .at .hook) (i .at .row) (i .at .stops) (i .at .standing) (x - 1) (i .at .leads ∙ sym up-one) (rule-asked .was)
           (ap parentOf is ∙ rule-asked .under ∙ sym (i .at .under))
           (subst (λ (z : ℕ). z ≤ view ws .tree .cell (x - 1)) (sym (i .at .above)) (subst (λ (z : ℕ). low ≤ cellOf z) (sym is) (rule-asked .above))) tell
           (marked left′) (e .gone t) (e .others t) (ap firstOf is ∙ rule-asked .leaf) (let l = rule-asked .rule in omega arith)
@@ -138,7 +138,7 @@ module _ (ws left₀ left way ks stack : List ℕ) (x p low depth top : ℕ) (i 
       rules-on x′ c ll ec ex z = record {
         sizes = record { words = i .sizes .words; maps = ll ∙ i .sizes .maps; ways = i .sizes .ways; counts = i .sizes .counts; stops = i .sizes .stops };
         at = record {
-          place = after (x - 1);
+          hook = after (x - 1);
           row = i .at .row;
           stops = i .at .stops;
           standing = standing;
@@ -159,7 +159,7 @@ module _ (ws left₀ left way ks stack : List ℕ) (x p low depth top : ℕ) (i 
       pub rules-over : (x′ : ℕ) → x′ ≡ nextOf w → x′ ≡ 0 → Ruled ws left₀ left′ way ks stack depth top true
       rules-over x′ ex z = record {
         over = λ q. record {
-          place = after (x - 1);
+          hook = after (x - 1);
           row = i .at .row;
           stops = i .at .stops;
           standing = standing;

@@ -11,9 +11,9 @@ use Rattle.deciding.specs.Deciding.{pick}
 use Rattle.layout.specs.Layout.{nodesLimit, mapWords, linksAt, lastLink}
 use Rattle.bits.specs.Packed.{bits}
 use Rattle.term.specs.Counting.{true≢false}
-use Rattle.tree.specs.Tally.{marked}
-use Rattle.tree.specs.Tallies.{mark-here, mark-other}
-use Rattle.tree.specs.Words.{cellOf, parentOf, firstOf, nextOf, Node}
+use Rattle.shape.specs.Tally.{marked}
+use Rattle.shape.specs.Tallies.{mark-here, mark-other}
+use Rattle.links.specs.Words.{cellOf, parentOf, firstOf, nextOf, Node}
 use Rattle.passing.specs.State.{Come, Pushed, AskedNode, Entered, AskedRule, RuleEntered}
 use Rattle.recorded.specs.Way.{numbered}
 

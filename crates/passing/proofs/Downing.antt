@@ -9,18 +9,18 @@ use native.Mathlib.Decide.{ℕ-discrete, decLt}
 use lib.ListN.{length, getD, set, take, length-set}
 use lib.Seq.{getD-set-same, getD-set-other, getD-take}
 use Rattle.layout.specs.Layout.{nodesLimit, linksAt, lastLink, treeWords}
-use Rattle.tree.specs.Shape.{Shape, child, to, owner, floor, Fits, Up, down}
+use Rattle.shape.specs.Shape.{Shape, child, to, owner, floor, Fits, Up, down}
 use Rattle.term.specs.Counting.{true≢false}
-use Rattle.tree.specs.Rows.{up-same}
-use Rattle.tree.specs.Tally.{tally, marked}
-use Rattle.tree.specs.Tallies.{tally-more}
-use Rattle.tree.specs.Words.{cellOf, parentOf, firstOf, nextOf, word, Node}
-use Rattle.tree.specs.Down.{fresh, known-valid}
-use Rattle.tree.specs.Stops.{Stop, stop, beside, along-up, along-few, Standing, go-down, go-last}
+use Rattle.shape.specs.Rows.{up-same}
+use Rattle.shape.specs.Tally.{tally, marked}
+use Rattle.shape.specs.Tallies.{tally-more}
+use Rattle.links.specs.Words.{cellOf, parentOf, firstOf, nextOf, word, Node}
+use Rattle.shape.specs.Down.{fresh, known-valid}
+use Rattle.shape.specs.Stops.{Stop, stop, beside, along-up, along-few, Standing, go-down, go-last}
 use Rattle.book.specs.Memory.{View, view}
 use Rattle.recorded.specs.WayCells.{kept-word, blanks-low}
 use Rattle.passing.specs.Wanted.{Told, Bare, whole-row}
-use Rattle.passing.specs.State.{none, more, Stacked, AtPlace, AllFound, Sizes, AskedNode, Entered, Pushed, Downed}
+use Rattle.passing.specs.State.{none, more, Stacked, AtHook, AllFound, Sizes, AskedNode, Entered, Pushed, Downed}
 use Rattle.passing.specs.State as state
 use Rattle.book.specs.Looking.{nodes-low}
 use Rattle.recorded.specs.Way.{wants, blanks, counts, numbered, wordOf, Kept, none, more, Low}
@@ -87,15 +87,15 @@ node-word ws n h = getD-take treeWords ws (linksAt + suc n) 0 (omega arith)
 
 -- ---- where the walk stands
 
-module _ (ws left way ks stack : List ℕ) (x p low depth top : ℕ) (s : Sizes ws left way ks stack) (a : AtPlace ws left way ks stack x p low depth top) where
+module _ (ws left way ks stack : List ℕ) (x p low depth top : ℕ) (s : Sizes ws left way ks stack) (a : AtHook ws left way ks stack x p low depth top) where
   v : View
   v = view ws
 
-  -- where all is found, a node that the place leads to is left and fits, and it has the row that the walk has
+  -- where all is found, a node that the hook leads to is left and fits, and it has the row that the walk has
   module _ (f : AllFound ws) where
-    pub meets : (n : ℕ) → to (view ws .tree) (a .place) ≡ suc n → Fits (view ws .tree) (a .place) n × (marked left n ≡ true) × Told (view ws) n (view ws .tree .cell n ∷ a .row)
+    pub meets : (n : ℕ) → to (view ws .tree) (a .hook) ≡ suc n → Fits (view ws .tree) (a .hook) n × (marked left n ≡ true) × Told (view ws) n (view ws .tree .cell n ∷ a .row)
     meets n e =
-        let q = fresh (view ws .tree) Bare (Told (view ws)) (marked left) (a .place) (map beside (a .stops)) (a .standing .walking) (f .tree) e in
+        let q = fresh (view ws .tree) Bare (Told (view ws)) (marked left) (a .hook) (map beside (a .stops)) (a .standing .walking) (f .tree) e in
         let t = f .told n (q .0 .used) in
         let row : Up (view ws .tree) (suc n) (view ws .tree .cell n ∷ a .row) =
         down (q .0 .used) refl (subst (λ (z : ℕ). Up (view ws .tree) z (a .row)) (sym (q .0 .under)) (along-up (view ws .tree) (a .standing .along))) in
@@ -103,7 +103,7 @@ module _ (ws left way ks stack : List ℕ) (x p low depth top : ℕ) (s : Sizes 
 
     pub no-dead-end : ¬ (x ≡ 0)
     no-dead-end e =
-        a .stuck e (f .bare (a .place) (known-valid (view ws .tree) (marked left) (a .place) (a .standing .walking .known (a .place) (List·Memᴰ·head refl))) (a .leads ∙ e))
+        a .stuck e (f .bare (a .hook) (known-valid (view ws .tree) (marked left) (a .hook) (a .standing .walking .known (a .hook) (List·Memᴰ·head refl))) (a .leads ∙ e))
 
     -- a node of forms comes next where something is wanted
     inner : ¬ (wants (a .row) ≡ 0) → AskedNode left x p low depth (getD ws (linksAt + x) 0)
@@ -113,7 +113,7 @@ module _ (ws left way ks stack : List ℕ) (x p low depth top : ℕ) (s : Sizes 
         go zero e = absurd (no-dead-end e)
         go (suc n) e = by (decLt n nodesLimit)
           where
-            q : Fits (view ws .tree) (a .place) n × (marked left n ≡ true) × Told (view ws) n (view ws .tree .cell n ∷ a .row)
+            q : Fits (view ws .tree) (a .hook) n × (marked left n ≡ true) × Told (view ws) n (view ws .tree .cell n ∷ a .row)
             q = meets n (a .leads ∙ e)
 
             is : word (take treeWords ws) (suc n) ≡ getD ws (linksAt + x) 0
@@ -162,23 +162,23 @@ module _ (ws left way ks stack : List ℕ) (x p low depth top : ℕ) (s : Sizes 
       rule = λ k q. absurd (let l = n-low in omega arith);
     }
 
-    leads-to : to (view ws .tree) (a .place) ≡ suc n
+    leads-to : to (view ws .tree) (a .hook) ≡ suc n
     leads-to = a .leads ∙ sym up-one
 
-    fits-under : view ws .tree .parent n ≡ owner (view ws .tree) (a .place)
+    fits-under : view ws .tree .parent n ≡ owner (view ws .tree) (a .hook)
     fits-under = ap parentOf is ∙ asked .under ∙ sym (a .under)
 
-    fits-above : floor (view ws .tree) (a .place) ≤ view ws .tree .cell n
+    fits-above : floor (view ws .tree) (a .hook) ≤ view ws .tree .cell n
     fits-above = subst (λ (z : ℕ). z ≤ view ws .tree .cell n) (sym (a .above)) (subst (λ (z : ℕ). low ≤ cellOf z) (sym is) (asked .above))
 
     with-sibling : ¬ (nextOf w ≡ 0) → Standing (view ws .tree) Bare (Told (view ws)) (child (suc n)) (view ws .tree .cell n ∷ a .row) (stop n (length (a .row)) ∷ a .stops) (marked left′)
     unfolding n
-    with-sibling z = go-down (view ws .tree) Bare (Told (view ws)) (marked left) (a .place) (a .row) (a .stops) (a .standing) (x - 1) leads-to (asked .was) fits-under fits-above inner-told
+    with-sibling z = go-down (view ws .tree) Bare (Told (view ws)) (marked left) (a .hook) (a .row) (a .stops) (a .standing) (x - 1) leads-to (asked .was) fits-under fits-above inner-told
         (marked left′) (e .gone t) (e .others t) (λ q. z (sym (ap nextOf is) ∙ q))
 
     with-none : nextOf w ≡ 0 → Standing (view ws .tree) Bare (Told (view ws)) (child (suc n)) (view ws .tree .cell n ∷ a .row) (a .stops) (marked left′)
     unfolding n
-    with-none z = go-last (view ws .tree) Bare (Told (view ws)) (marked left) (a .place) (a .row) (a .stops) (a .standing) (x - 1) leads-to (asked .was) fits-under fits-above inner-told
+    with-none z = go-last (view ws .tree) Bare (Told (view ws)) (marked left) (a .hook) (a .row) (a .stops) (a .standing) (x - 1) leads-to (asked .was) fits-under fits-above inner-told
         (marked left′) (e .gone t) (e .others t) (ap nextOf is ∙ z) tt
 
     pub top-low : top ≤ depth
@@ -198,9 +198,9 @@ module _ (ws left way ks stack : List ℕ) (x p low depth top : ℕ) (s : Sizes 
           (ew ∙ ap (λ (z : ℕ). wordOf (cellOf z ∷ a .row)) (sym is)) (ek ∙ ap (λ (z : ℕ). counts (cellOf z ∷ a .row)) (sym is)) h (a .kept)
 
       at : (stops : List Stop) → Standing (view ws .tree) Bare (Told (view ws)) (child (suc n)) (view ws .tree .cell n ∷ a .row) stops (marked left′)
-          → Stacked (view ws .tree) stack′ top′ stops → AtPlace ws left′ (set way (depth + 1) wd) (set ks (depth + 1) kk) stack′ (firstOf w) x 0 (depth + 1) top′
+          → Stacked (view ws .tree) stack′ top′ stops → AtHook ws left′ (set way (depth + 1) wd) (set ks (depth + 1) kk) stack′ (firstOf w) x 0 (depth + 1) top′
       at stops st sk = record {
-        place = child (suc n);
+        hook = child (suc n);
         row = view ws .tree .cell n ∷ a .row;
         stops = stops;
         standing = st;
@@ -230,10 +230,10 @@ module _ (ws left way ks stack : List ℕ) (x p low depth top : ℕ) (s : Sizes 
             next = d .is .next ∙ ap nextOf (sym is);
           })
 
-      pub downward : AtPlace ws left′ (set way (depth + 1) wd) (set ks (depth + 1) kk) stack′ (firstOf w) x 0 (depth + 1) top′
+      pub downward : AtHook ws left′ (set way (depth + 1) wd) (set ks (depth + 1) kk) stack′ (firstOf w) x 0 (depth + 1) top′
       downward = go (ℕ-discrete (nextOf w) 0)
         where
-          go : Dec (nextOf w ≡ 0) → AtPlace ws left′ (set way (depth + 1) wd) (set ks (depth + 1) kk) stack′ (firstOf w) x 0 (depth + 1) top′
+          go : Dec (nextOf w ≡ 0) → AtHook ws left′ (set way (depth + 1) wd) (set ks (depth + 1) kk) stack′ (firstOf w) x 0 (depth + 1) top′
           go (yes z) = at (a .stops) (with-none z)
               (subst (λ (k : ℕ). Stacked (view ws .tree) stack′ k (a .stops)) (sym (d .last z))
               (subst (λ (l : List ℕ). Stacked (view ws .tree) l top (a .stops)) (sym (d .stored)) (stacked-set top (d .word) (omega arith) (a .stacked))))
@@ -243,7 +243,7 @@ module _ (ws left way ks stack : List ℕ) (x p low depth top : ℕ) (s : Sizes 
 
 pub record Downing (ws left₀ left way ks stack : List ℕ) (x p low depth top k last : ℕ) : Type 0 where
   pub sizes : Sizes ws left way ks stack
-  pub at : AtPlace ws left way ks stack x p low depth top
+  pub at : AtHook ws left way ks stack x p low depth top
   pub count : k ≡ counts (at .row)
   pub cells : last ≡ wordOf (at .row)
   pub fewer : tally (marked left) lastLink ≤ tally (marked left₀) lastLink
@@ -251,15 +251,15 @@ pub record Downing (ws left₀ left way ks stack : List ℕ) (x p low depth top 
   pub tops : top ≤ 32
   pub known : k / 65536 ≤ 32
 
-pub tops-of : {ws left way ks stack : List ℕ} {x p low depth top : ℕ} → AtPlace ws left way ks stack x p low depth top → top ≤ 32
+pub tops-of : {ws left way ks stack : List ℕ} {x p low depth top : ℕ} → AtHook ws left way ks stack x p low depth top → top ≤ 32
 tops-of {ws} a = let f = along-few (view ws .tree) (a .standing .along) in let g = stacked-many (a .stacked) in let d = a .deep in let s = a .short in omega arith
 
-known-of : {ws left way ks stack : List ℕ} {x p low depth top : ℕ} (a : AtPlace ws left way ks stack x p low depth top) (k : ℕ) → k ≡ counts (a .row) → k / 65536 ≤ 32
+known-of : {ws left way ks stack : List ℕ} {x p low depth top : ℕ} (a : AtHook ws left way ks stack x p low depth top) (k : ℕ) → k ≡ counts (a .row) → k / 65536 ≤ 32
 known-of a k e =
     let d = a .deep in let s = a .short in let b = blanks-low (a .row) (a .cells) in
     subst (λ (z : ℕ). z / 65536 ≤ 32) (sym e) (subst (λ (z : ℕ). z ≤ 32) (sym (known-is (a .row) (omega arith))) (omega arith))
 
-pub down-start : (ws left way ks stack : List ℕ) (x p low depth top : ℕ) → Sizes ws left way ks stack → AtPlace ws left way ks stack x p low depth top
+pub down-start : (ws left way ks stack : List ℕ) (x p low depth top : ℕ) → Sizes ws left way ks stack → AtHook ws left way ks stack x p low depth top
     → Downing ws left left way ks stack x p low depth top (getD ks depth 0) (getD way depth 0)
 down-start ws left way ks stack x p low depth top s a = record {
   sizes = s;
@@ -333,8 +333,8 @@ module _ (ws left₀ left way ks stack : List ℕ) (x p low depth top k last : �
         wd = ap (λ (z : ℕ). z % 281474976710656 * 65536 + nm) (i .cells)
             ∙ ap (λ (z : ℕ). wordOf (i .at .row) % 281474976710656 * 65536 + z) (en ∙ ap (numbered c) (ap (λ (z : ℕ). z / 65536) (i .count) ∙ known-is (i .at .row) long) ∙ ap (λ (z : ℕ). numbered z (blanks (i .at .row))) ec)
 
-        next : AtPlace ws left′ (set way (depth + 1) (last % 281474976710656 * 65536 + nm)) (set ks (depth + 1) (k + c / 4096 % 8 + c / 32768 * 65536 - 1)) stack′ f x 0 (depth + 1) top′
-        next = subst (λ (z : ℕ). AtPlace ws left′ (set way (depth + 1) (last % 281474976710656 * 65536 + nm)) (set ks (depth + 1) (k + c / 4096 % 8 + c / 32768 * 65536 - 1)) stack′ z x 0 (depth + 1) top′) (sym ef)
+        next : AtHook ws left′ (set way (depth + 1) (last % 281474976710656 * 65536 + nm)) (set ks (depth + 1) (k + c / 4096 % 8 + c / 32768 * 65536 - 1)) stack′ f x 0 (depth + 1) top′
+        next = subst (λ (z : ℕ). AtHook ws left′ (set way (depth + 1) (last % 281474976710656 * 65536 + nm)) (set ks (depth + 1) (k + c / 4096 % 8 + c / 32768 * 65536 - 1)) stack′ z x 0 (depth + 1) top′) (sym ef)
             (downward ws left way ks stack x p low depth top (i .sizes) (i .at) left′ w r e t wanting stack′ top′ d _ _ wd kk)
 
         count′ : k + c / 4096 % 8 + c / 32768 * 65536 - 1 ≡ counts (next .row)

@@ -1,4 +1,4 @@
--- The walk's first place, its way back to a stop, and its end: where none is left all is found, and where all is found none is left.
+-- The walk's first hook, its way back to a stop, and its end: where none is left all is found, and where all is found none is left.
 use mathlib.Core.Path.{_≡_, refl, sym, ap, _∙_, subst}
 use mathlib.Core.List.{List, [], _∷_, _++_, Memᴰ·append-right, List·Memᴰ·tail, List·Memᴰ·not-nil}
 use mathlib.Core.Bool.{Bool, true, false}
@@ -11,15 +11,15 @@ use Rattle.deciding.specs.Deciding.{Decides}
 use Rattle.layout.specs.Layout.{mapWords, linksAt, treeWords, bookWords}
 use Rattle.bits.specs.Packed.{bits}
 use Rattle.term.specs.Counting.{true≢false}
-use Rattle.tree.specs.Shape.{child, after}
-use Rattle.tree.specs.Tally.{marked}
-use Rattle.tree.specs.Tallies.{same-bits, no-mark}
-use Rattle.tree.specs.Words.{cellOf, parentOf, firstOf, nextOf, word}
-use Rattle.tree.specs.Down.{Walking, ended, all-seen}
-use Rattle.tree.specs.Stops.{Stop, Standing, set-off, go-end, go-back}
+use Rattle.shape.specs.Shape.{child, after}
+use Rattle.shape.specs.Tally.{marked}
+use Rattle.shape.specs.Tallies.{same-bits, no-mark}
+use Rattle.links.specs.Words.{cellOf, parentOf, firstOf, nextOf, word}
+use Rattle.shape.specs.Down.{Walking, ended, all-seen}
+use Rattle.shape.specs.Stops.{Stop, Standing, set-off, go-end, go-back}
 use Rattle.book.specs.Memory.{view, Passing}
 use Rattle.passing.specs.Wanted.{Told, Bare, ended-right, right-ended}
-use Rattle.passing.specs.State.{none, more, Stacked, AtPlace, AllFound, Sizes, Over, Popped, Clear}
+use Rattle.passing.specs.State.{none, more, Stacked, AtHook, AllFound, Sizes, Over, Popped, Clear}
 use Rattle.book.specs.Looking.{inside, nodes-low}
 use Rattle.passing.proofs.Downing.{kept-back}
 use Rattle.recorded.specs.Way.{Kept, none, more, Low}
@@ -65,7 +65,7 @@ walked ws left size w r d = record {
     gone f n true e = all-seen (view ws .tree) Bare (Told (view ws)) (marked left) w (f .tree) n (w .within n e)
     gone f n false e = e
 
--- ---- the first place
+-- ---- the first hook
 
 module _ (ws left : List ℕ) (size : length ws ≡ bookWords) (el : left ≡ take mapWords ws) where
   first-standing : Standing (view ws .tree) Bare (Told (view ws)) (child 0) [] [] (marked left)
@@ -79,9 +79,9 @@ module _ (ws left : List ℕ) (size : length ws ≡ bookWords) (el : left ≡ ta
   no-child x e z r d = walked ws left size
       (go-end (view ws .tree) Bare (Told (view ws)) (marked left) (child 0) [] [] first-standing refl (ap firstOf root-word ∙ sym e ∙ z) tt) r d
 
-  pub first-place : (x : ℕ) → x ≡ firstOf (getD ws linksAt 0) → ¬ (x ≡ 0) → AtPlace ws left (replicate 33 0) (replicate 33 1) (replicate 33 0) x 0 0 0 0
-  first-place x e z = record {
-    place = child 0;
+  pub first-hook : (x : ℕ) → x ≡ firstOf (getD ws linksAt 0) → ¬ (x ≡ 0) → AtHook ws left (replicate 33 0) (replicate 33 1) (replicate 33 0) x 0 0 0 0
+  first-hook x e z = record {
+    hook = child 0;
     row = [];
     stops = [];
     standing = first-standing;
@@ -101,7 +101,7 @@ module _ (ws left : List ℕ) (size : length ws ≡ bookWords) (el : left ≡ ta
 module _ (ws left way ks stack : List ℕ) (depth top : ℕ) (size : length ws ≡ bookWords) (o : Over ws left way ks stack depth top) where
   pub walk-over : top ≡ 0 → (r : Bool) → Decides (Clear left) r → Decides (Passing ws) r
   walk-over z r d = walked ws left size
-      (go-end (view ws .tree) Bare (Told (view ws)) (marked left) (o .place) (o .row) (o .stops) (o .standing) (no-stops (subst (λ (k : ℕ). Stacked (view ws .tree) stack k (o .stops)) z (o .stacked))) (o .leads) (o .bare)) r d
+      (go-end (view ws .tree) Bare (Told (view ws)) (marked left) (o .hook) (o .row) (o .stops) (o .standing) (no-stops (subst (λ (k : ℕ). Stacked (view ws .tree) stack k (o .stops)) z (o .stacked))) (o .leads) (o .bare)) r d
     where
       no-stops : {ks : List Stop} → Stacked (view ws .tree) stack 0 ks → ks ≡ []
       no-stops none = refl
@@ -115,16 +115,16 @@ module _ (ws left way ks stack : List ℕ) (depth top : ℕ) (size : length ws �
   shorter : (s r : List ℕ) (c : ℕ) → s ++ c ∷ r ≡ o .row → length r ≤ 32
   shorter s r c e = omega (arith, ap length e, length-append s (c ∷ r), o .deep, o .short)
 
-  pub walk-back : (t w x p low d t′ : ℕ) → top ≡ suc t → w ≡ getD stack t 0 → Popped w t x p low d t′ → AtPlace ws left way ks stack x p low d t′
+  pub walk-back : (t w x p low d t′ : ℕ) → top ≡ suc t → w ≡ getD stack t 0 → Popped w t x p low d t′ → AtHook ws left way ks stack x p low d t′
   walk-back t w x p low d t′ e ew q = go (o .standing) (subst (λ (k : ℕ). Stacked (view ws .tree) stack k (o .stops)) e (o .stacked))
     where
-      go : {stops : List Stop} → Standing (view ws .tree) Bare (Told (view ws)) (o .place) (o .row) stops (marked left) → Stacked (view ws .tree) stack (suc t) stops
-          → AtPlace ws left way ks stack x p low d t′
+      go : {stops : List Stop} → Standing (view ws .tree) Bare (Told (view ws)) (o .hook) (o .row) stops (marked left) → Stacked (view ws .tree) stack (suc t) stops
+          → AtHook ws left way ks stack x p low d t′
       go st (more {n = n} {d = j} {ks = rest} v s) =
-          let b = go-back (view ws .tree) Bare (Told (view ws)) (marked left) (o .place) (o .row) n j rest st (o .leads) (o .bare) in
+          let b = go-back (view ws .tree) Bare (Told (view ws)) (marked left) (o .hook) (o .row) n j rest st (o .leads) (o .bare) in
           let same = b .0 .is in
           let first : firstOf w ≡ length (b .0 .row) = ap firstOf ew ∙ v .first ∙ sym (b .0 .deep) in record {
-            place = after n;
+            hook = after n;
             row = b .0 .row;
             stops = rest;
             standing = b .1;
@@ -143,7 +143,7 @@ module _ (ws left way ks stack : List ℕ) (depth top : ℕ) (size : length ws �
 
 pub record Checking (ws left way ks stack : List ℕ) (x p low depth top : ℕ) : Type 0 where
   pub sizes : Sizes ws left way ks stack
-  pub at : AtPlace ws left way ks stack x p low depth top
+  pub at : AtHook ws left way ks stack x p low depth top
 
 pub wrong-length : (ws : List ℕ) → ¬ (length ws ≡ bookWords) → Decides (Passing ws) false
 wrong-length ws n = record { yes = λ q. absurd (true≢false q refl); no = λ q p. n (p .size) }

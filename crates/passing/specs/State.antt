@@ -5,12 +5,12 @@ use mathlib.Core.Bool.{Bool, true, false}
 use Prim.Native.Nat.{ℕ, zero, suc, _+_, _-_, _%_, _≤_, _<_}
 use lib.ListN.{length, getD, set}
 use Rattle.layout.specs.Layout.{nodesLimit, mapWords, linksAt, lastLink, bookWords}
-use Rattle.tree.specs.Shape.{Shape, Place, to, owner, floor}
-use Rattle.tree.specs.Tally.{tally, marked}
-use Rattle.tree.specs.Words.{cellOf, parentOf, firstOf, nextOf, Node}
+use Rattle.shape.specs.Shape.{Shape, Hook, to, owner, floor}
+use Rattle.shape.specs.Tally.{tally, marked}
+use Rattle.links.specs.Words.{cellOf, parentOf, firstOf, nextOf, Node}
 use Rattle.tree.specs.Promises.{Marked}
-use Rattle.tree.specs.Down.{Ended}
-use Rattle.tree.specs.Stops.{Stop, stop, Standing}
+use Rattle.shape.specs.Down.{Ended}
+use Rattle.shape.specs.Stops.{Stop, stop, Standing}
 use Rattle.book.specs.Memory.{view}
 use Rattle.recorded.specs.Way.{Kept, Low}
 use Rattle.passing.specs.Wanted.{Told, Bare}
@@ -21,18 +21,18 @@ pub data Stacked (m : Shape) (stack : List ℕ) : ℕ → List Stop → Type 0 w
   more : {k n d : ℕ} {ks : List Stop} → Node (getD stack k 0) (m .cell n) (m .parent n) d (m .next n) → Stacked m stack k ks → Stacked m stack (suc k) (stop n d ∷ ks)
 
 -- The walk stands before the link x, a child of p with a cell of `low` at the least
-pub record AtPlace (ws left way ks stack : List ℕ) (x p low depth top : ℕ) : Type 0 where
-  pub place : Place
+pub record AtHook (ws left way ks stack : List ℕ) (x p low depth top : ℕ) : Type 0 where
+  pub hook : Hook
   pub row : List ℕ
   pub stops : List Stop
-  pub standing : Standing (view ws .tree) Bare (Told (view ws)) place row stops (marked left)
-  pub leads : to (view ws .tree) place ≡ x
-  pub under : owner (view ws .tree) place ≡ p
-  pub above : floor (view ws .tree) place ≡ low
+  pub standing : Standing (view ws .tree) Bare (Told (view ws)) hook row stops (marked left)
+  pub leads : to (view ws .tree) hook ≡ x
+  pub under : owner (view ws .tree) hook ≡ p
+  pub above : floor (view ws .tree) hook ≡ low
   pub deep : length row ≡ depth
   pub short : depth ≤ 32
   pub cells : Low row
-  pub stuck : x ≡ 0 → ¬ (Bare place)
+  pub stuck : x ≡ 0 → ¬ (Bare hook)
   pub stacked : Stacked (view ws .tree) stack top stops
   pub kept : Kept way ks row
 
@@ -87,7 +87,7 @@ pub record Entered (ws left left′ : List ℕ) (x p low depth w : ℕ) (r : Boo
 
 -- Down to the end of a form
 pub record Downed (ws left left′ way ks stack : List ℕ) (x p low depth top : ℕ) (r : Bool) : Type 0 where
-  pub at : r ≡ true → AtPlace ws left′ way ks stack x p low depth top
+  pub at : r ≡ true → AtHook ws left′ way ks stack x p low depth top
   pub whole : r ≡ true → getD ks depth 0 % 65536 ≡ 0
   pub fewer : r ≡ true → tally (marked left′) lastLink ≤ tally (marked left) lastLink
   pub no : r ≡ false → ¬ (AllFound ws)
@@ -110,12 +110,12 @@ pub record RuleEntered (ws left left′ : List ℕ) (x p low w : ℕ) (r : Bool)
 
 -- The walk stands at the end of a list of siblings
 pub record Over (ws left way ks stack : List ℕ) (depth top : ℕ) : Type 0 where
-  pub place : Place
+  pub hook : Hook
   pub row : List ℕ
   pub stops : List Stop
-  pub standing : Standing (view ws .tree) Bare (Told (view ws)) place row stops (marked left)
-  pub leads : to (view ws .tree) place ≡ 0
-  pub bare : Bare place
+  pub standing : Standing (view ws .tree) Bare (Told (view ws)) hook row stops (marked left)
+  pub leads : to (view ws .tree) hook ≡ 0
+  pub bare : Bare hook
   pub deep : length row ≡ depth
   pub short : depth ≤ 32
   pub cells : Low row
@@ -132,7 +132,7 @@ pub record Ruled (ws left left′ way ks stack : List ℕ) (depth top : ℕ) (r 
 abbrev pub Clear : List ℕ → Type 0
 Clear left = (n : ℕ) → marked left n ≡ false
 
--- The place behind the stop with the word w
+-- The hook behind the stop with the word w
 pub record Popped (w t x p low d top : ℕ) : Type 0 where
   pub x-is : x ≡ nextOf w
   pub p-is : p ≡ parentOf w

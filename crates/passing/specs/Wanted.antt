@@ -13,14 +13,14 @@ use Rattle.term.specs.Cells.{Terms, arity, blankOf, blankForm}
 use Rattle.term.specs.Beginnings.{Begins}
 use Rattle.term.specs.Preorder.{recount, open-row, empty-none}
 use Rattle.term.specs.Whole.{whole-term}
-use Rattle.tree.specs.Shape.{Shape, Place, child, after, Used, Valid, to, Up, down, On, here, above, End, Covered, Tree}
-use Rattle.tree.specs.Basics.{up-used}
-use Rattle.tree.specs.Order.{childless}
-use Rattle.tree.specs.Rows.{up-same, passes-tree}
-use Rattle.tree.specs.Tallies.{listed, of-listed}
-use Rattle.tree.specs.Leaves.{Leaf, endOf, ends, bases, numbered}
-use Rattle.tree.specs.Down.{Ended}
-use Rattle.tree.specs.Stops.{reach-end}
+use Rattle.shape.specs.Shape.{Shape, Hook, child, after, Used, Valid, to, Up, down, On, here, above, End, Covered, Tree}
+use Rattle.shape.specs.Basics.{up-used}
+use Rattle.shape.specs.Order.{childless}
+use Rattle.shape.specs.Rows.{up-same, passes-tree}
+use Rattle.shape.specs.Tallies.{listed, of-listed}
+use Rattle.shape.specs.Leaves.{Leaf, endOf, ends, bases, numbered}
+use Rattle.shape.specs.Down.{Ended}
+use Rattle.shape.specs.Stops.{reach-end}
 use Rattle.book.specs.Memory.{View, taken, number, term, form, formOf, blankNumber, leaf, leaves, Recorded, Right}
 use Rattle.book.specs.Forms.{Side, symbol, variable, side, form-row}
 use Rattle.recorded.specs.Way.{wants}
@@ -52,7 +52,7 @@ pub record Told (v : View) (n : ℕ) (r : List ℕ) : Type 0 where
   pub rule : (k : ℕ) → n ≡ nodesLimit + k → Hangs v k (behind r)
 
 -- a node has a child, and only a rule has none
-abbrev pub Bare : Place → Type 0
+abbrev pub Bare : Hook → Type 0
 Bare (child zero) = Unit {0}
 Bare (child (suc n)) = nodesLimit ≤ n
 Bare (after n) = Unit {0}
@@ -172,7 +172,7 @@ module _ (v : View) (small : (n : ℕ) → Used (v .tree) n → n < lastLink) wh
     tree : Tree (v .tree)
     tree = passes-tree (right .tree)
 
-    bare : (s : Place) → Valid (v .tree) s → to (v .tree) s ≡ 0 → Bare s
+    bare : (s : Hook) → Valid (v .tree) s → to (v .tree) s ≡ 0 → Bare s
     bare (child zero) u e = tt
     bare (after n) u e = tt
     bare (child (suc n)) u e = go (decLt n nodesLimit)

@@ -9,7 +9,7 @@ ghost use Rattle.deciding.specs.Deciding.{Decides};
 ghost use Rattle.layout.specs.Layout.{mapWords, lastLink, bookWords};
 ghost use Rattle.book.specs.Memory.{Passing};
 ghost use Rattle.recorded.specs.Way.{numbered};
-ghost use Rattle.passing.specs.State.{AtPlace, Sizes, Come, Pushed, Entered, Downed, RuleEntered, Ruled, Clear, Popped};
+ghost use Rattle.passing.specs.State.{AtHook, Sizes, Come, Pushed, Entered, Downed, RuleEntered, Ruled, Clear, Popped};
 use book::Book;
 
 // The mark of a blank, as wide as the cell of a word.
@@ -30,10 +30,10 @@ fn come(left: &mut [u64], w: u64, n: usize, p: usize, low: u64) -> bool
     requires { ⌜ (length (now left) ≡ mapWords) × (n < lastLink) ⌝ }
     ensures { λ r. ⌜ Come (now (left .entry)) (now (left .exit)) w n p low r ⌝ }
 {
-    if tree::parent_of(w) as usize != p {
+    if links::parent_of(w) as usize != p {
         return false;
     }
-    if tree::cell_of(w) < low {
+    if links::cell_of(w) < low {
         return false;
     }
     if !bits::is_marked(left, n) {
@@ -49,7 +49,7 @@ fn push(stack: &mut [u64], top: usize, w: u64, depth: usize) -> usize
     requires { ⌜ (length (now stack) ≡ 33) × (top ≤ 32) × (depth ≤ 32) ⌝ }
     ensures { λ r. ⌜ Pushed (now (stack .entry)) (now (stack .exit)) top r w depth ⌝ }
 {
-    stack[top] = tree::with_first(w, depth as u64);
+    stack[top] = links::with_first(w, depth as u64);
     if w % 65536 == 0 {
         return top;
     }
@@ -85,7 +85,7 @@ fn enter(m: &[u64], left: &mut [u64], x: usize, p: usize, low: u64, depth: usize
         return wrong();
     }
     let w = m[layout::LINKS_AT + x];
-    if MARK < tree::cell_of(w) {
+    if MARK < links::cell_of(w) {
         return wrong();
     }
     if !come(left, w, x - 1, p, low) {
@@ -129,7 +129,7 @@ pub fn down(
     at: Walker,
 ) -> Walker
     requires { ⌜ Sizes (now m) (now left) (now way) (now wants) (now stack) ⌝ }
-    requires { ⌜ AtPlace (now m) (now left) (now way) (now wants) (now stack) (at .x) (at .p) (at .low) (at .depth) (at .top) ⌝ }
+    requires { ⌜ AtHook (now m) (now left) (now way) (now wants) (now stack) (at .x) (at .p) (at .low) (at .depth) (at .top) ⌝ }
     ensures { λ r. ⌜ Downed (now (m .entry)) (now (left .entry)) (now (left .exit)) (now (way .exit)) (now (wants .exit)) (now (stack .exit)) (r .x) (r .p) (r .low) (r .depth) (r .top) (r .right) ⌝ }
 {
     let mut x = at.x;
@@ -146,7 +146,7 @@ pub fn down(
             return lost();
         }
         let w = got.word;
-        let c = tree::cell_of(w);
+        let c = links::cell_of(w);
         top = push(stack, top, w, depth);
         word = word % 281474976710656 * 65536 + number(c, k / 65536);
         k = k + c / 4096 % 8 + c / 32768 * 65536 - 1;
@@ -154,7 +154,7 @@ pub fn down(
         way[depth] = word;
         wants[depth] = k;
         p = x;
-        x = tree::first_of(w) as usize;
+        x = links::first_of(w) as usize;
         low = 0;
     }
     Walker {
@@ -179,7 +179,7 @@ fn enter_rule(m: &[u64], left: &mut [u64], x: usize, p: usize, low: u64) -> Got
         return wrong();
     }
     let w = m[layout::LINKS_AT + x];
-    if tree::first_of(w) != 0 {
+    if links::first_of(w) != 0 {
         return wrong();
     }
     if !come(left, w, x - 1, p, low) {
@@ -201,7 +201,7 @@ pub fn rules(
     at: Walker,
 ) -> bool
     requires { ⌜ Sizes (now m) (now left) (now way) (now wants) (now stack) ⌝ }
-    requires { ⌜ AtPlace (now m) (now left) (now way) (now wants) (now stack) (at .x) (at .p) (at .low) (at .depth) (at .top) ⌝ }
+    requires { ⌜ AtHook (now m) (now left) (now way) (now wants) (now stack) (at .x) (at .p) (at .low) (at .depth) (at .top) ⌝ }
     requires { ⌜ getD (now wants) (at .depth) 0 % 65536 ≡ 0 ⌝ }
     ensures { λ r. ⌜ Ruled (now (m .entry)) (now (left .entry)) (now (left .exit)) (now (way .entry)) (now (wants .entry)) (now (stack .entry)) (at .depth) (at .top) r ⌝ }
 {
@@ -217,11 +217,11 @@ pub fn rules(
             return false;
         }
         let w = got.word;
-        let number = tree::cell_of(w);
+        let number = links::cell_of(w);
         if !recorded::is_rule(m, way, x - layout::FIRST_RULE, number, depth) {
             return false;
         }
-        x = tree::next_of(w) as usize;
+        x = links::next_of(w) as usize;
         low = number + 1;
         if x == 0 {
             return true;
@@ -257,10 +257,10 @@ fn back(w: u64, t: usize) -> Walker
     ensures { λ r. ⌜ Popped w t (r .x) (r .p) (r .low) (r .depth) (r .top) ⌝ }
 {
     Walker {
-        x: tree::next_of(w) as usize,
-        p: tree::parent_of(w) as usize,
-        low: tree::cell_of(w) + 1,
-        depth: tree::first_of(w) as usize,
+        x: links::next_of(w) as usize,
+        p: links::parent_of(w) as usize,
+        low: links::cell_of(w) + 1,
+        depth: links::first_of(w) as usize,
         top: t,
         right: true,
     }
@@ -274,7 +274,7 @@ pub fn passes(m: &[u64]) -> bool
         return false;
     }
     let mut left = maps(m);
-    let first = tree::first_of(m[layout::LINKS_AT]) as usize;
+    let first = links::first_of(m[layout::LINKS_AT]) as usize;
     if first == 0 {
         return is_clear(&left);
     }

@@ -6,15 +6,15 @@ use Prim.Native.Nat.{ℕ, zero, suc, _+_, _-_, _^_, _≤_, _<_}
 use native.Mathlib.Omega.{arith}
 use lib.ListN.{getD}
 use Rattle.layout.specs.Layout.{linksAt}
-use Rattle.tree.specs.Shape.{after, Used}
-use Rattle.tree.specs.Order.{ahead}
-use Rattle.tree.specs.Words.{cellOf, parentOf, nextOf}
-use Rattle.tree.specs.Trie.{trie}
-use Rattle.tree.specs.Search.{size}
-use Rattle.tree.specs.Promises.{Further}
+use Rattle.shape.specs.Shape.{after, Used}
+use Rattle.shape.specs.Order.{ahead}
+use Rattle.links.specs.Words.{cellOf, parentOf, nextOf}
+use Rattle.shape.specs.Trie.{trie}
+use Rattle.shape.specs.Search.{size}
 use Rattle.book.specs.Memory.{view, Passing}
 use Rattle.questions.specs.Promises.{PassesBy, pass-on, Reach, Threaded}
 use Rattle.questions.proofs.Threads.{tree, word-of, next-used, next-less}
+use Rattle.links.specs.Siblings.{Further}
 
 -- x is passed by, r comes next, and there is less of the tree behind it
 pub record Leapt (ws : List ℕ) (cell link x r : ℕ) : Type 0 where

@@ -9,11 +9,11 @@ use Rattle.layout.specs.Layout.{linksAt}
 use Rattle.term.specs.Cells.{arity, blankOf, blankForm}
 use Rattle.term.specs.Machine.{failed, at}
 use Rattle.term.specs.Steps.{spot, Stepped}
-use Rattle.tree.specs.Shape.{child, Used}
-use Rattle.tree.specs.Words.{cellOf, firstOf, nextOf}
-use Rattle.tree.specs.Trie.{Trie, tip, node, trie, height, FUEL}
-use Rattle.tree.specs.Search.{keep, hits, size}
-use Rattle.tree.specs.Unfolded.{no-trie, opens}
+use Rattle.shape.specs.Shape.{child, Used}
+use Rattle.links.specs.Words.{cellOf, firstOf, nextOf}
+use Rattle.shape.specs.Trie.{Trie, tip, node, trie, height, FUEL}
+use Rattle.shape.specs.Search.{keep, hits, size}
+use Rattle.shape.specs.Unfolded.{no-trie, opens}
 use Rattle.book.specs.Memory.{view}
 use Rattle.questions.specs.declared.Point.{Point}
 use Rattle.questions.specs.declared.trying.Ways.{Ways}

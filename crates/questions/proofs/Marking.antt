@@ -11,10 +11,10 @@ use Rattle.layout.specs.Layout.{ruleNumbers, linksAt}
 use Rattle.bits.specs.Numbers.{has, Member, NumberSet, PutsNumber}
 use Rattle.term.specs.Cells.{Row, Blank, blankOf, blankForm}
 use Rattle.term.specs.Machine.{State, at, step, done}
-use Rattle.tree.specs.Shape.{Shape}
-use Rattle.tree.specs.Words.{cellOf, nextOf}
-use Rattle.tree.specs.Trie.{Trie, tip, node, trie}
-use Rattle.tree.specs.Search.{keep, hits}
+use Rattle.shape.specs.Shape.{Shape}
+use Rattle.links.specs.Words.{cellOf, nextOf}
+use Rattle.shape.specs.Trie.{Trie, tip, node, trie}
+use Rattle.shape.specs.Search.{keep, hits}
 use Rattle.book.specs.Memory.{view}
 use Rattle.questions.specs.declared.Point.{Point}
 use Rattle.questions.specs.Walk.{reading, onDone, next, good, listed-none}

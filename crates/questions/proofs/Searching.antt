@@ -14,11 +14,11 @@ use Rattle.bits.specs.Numbers.{Member, NumberSet}
 use Rattle.term.specs.Cells.{Terms, blankForm}
 use Rattle.term.specs.Machine.{at, run, done}
 use Rattle.term.specs.Whole.{whole-term}
-use Rattle.tree.specs.Shape.{child, Used}
-use Rattle.tree.specs.Words.{firstOf}
-use Rattle.tree.specs.Trie.{trie, Bounded}
-use Rattle.tree.specs.Unfolded.{height-root}
-use Rattle.tree.specs.Search.{hits}
+use Rattle.shape.specs.Shape.{child, Used}
+use Rattle.links.specs.Words.{firstOf}
+use Rattle.shape.specs.Trie.{trie, Bounded}
+use Rattle.shape.specs.Unfolded.{height-root}
+use Rattle.shape.specs.Search.{hits}
 use Rattle.book.specs.Rules.{Rule}
 use Rattle.book.specs.Memory.{view, ruleAt, Passing, rulesIn}
 use Rattle.book.specs.Holding.{at-holds, holds-at}

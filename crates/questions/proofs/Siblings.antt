@@ -12,9 +12,9 @@ use Rattle.layout.specs.Layout.{linksAt}
 use Rattle.term.specs.Cells.{Cell, vari, symb, star, Row, Blank, pickCell, arity, blankOf, blankForm}
 use Rattle.term.specs.Machine.{failed, at, past, meet, onlyIf, step}
 use Rattle.term.specs.Steps.{spot}
-use Rattle.tree.specs.Words.{cellOf, nextOf}
-use Rattle.tree.specs.Trie.{trie}
-use Rattle.tree.specs.Search.{size}
+use Rattle.links.specs.Words.{cellOf, nextOf}
+use Rattle.shape.specs.Trie.{trie}
+use Rattle.shape.specs.Search.{size}
 use Rattle.book.specs.Memory.{view}
 use Rattle.questions.specs.Walk.{reading, next}
 use Rattle.questions.specs.Promises.{walkBefore, PassesBy, start, pass-on, Sought, reached, beyond, Skips, stay, skip-on, Decisive, LastWanted, Threaded}

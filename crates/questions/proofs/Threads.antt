@@ -7,14 +7,14 @@ use native.Mathlib.Decide.{decLt}
 use lib.ListN.{length, getD, take, length-take, List·getD-eq-default}
 use lib.Seq.{getD-take}
 use Rattle.layout.specs.Layout.{linksAt, lastLink, treeWords}
-use Rattle.tree.specs.Shape.{after, Used, Tree}
-use Rattle.tree.specs.Words.{cellOf, nextOf, word}
-use Rattle.tree.specs.Rows.{passes-tree}
-use Rattle.tree.specs.Trie.{trie, Bounded}
-use Rattle.tree.specs.Unfolded.{opens}
-use Rattle.tree.specs.Search.{size}
-use Rattle.tree.specs.Limits.{used-low, bounded}
-use Rattle.tree.specs.Leaves.{rows-short}
+use Rattle.shape.specs.Shape.{after, Used, Tree}
+use Rattle.links.specs.Words.{cellOf, nextOf, word}
+use Rattle.shape.specs.Rows.{passes-tree}
+use Rattle.shape.specs.Trie.{trie, Bounded}
+use Rattle.shape.specs.Unfolded.{opens}
+use Rattle.shape.specs.Search.{size}
+use Rattle.links.specs.Limits.{used-low, bounded}
+use Rattle.shape.specs.Leaves.{rows-short}
 use Rattle.book.specs.Memory.{view, Passing}
 use Rattle.book.specs.Holding.{hanging}
 use Rattle.questions.specs.Promises.{Threaded}

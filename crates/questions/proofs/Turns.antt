@@ -6,8 +6,8 @@ use Prim.Native.Nat.{ℕ, _+_, _-_, _^_, _≤_, _<_}
 use native.Mathlib.Omega.{arith}
 use lib.ListN.{getD}
 use Rattle.bits.specs.Numbers.{NumberSet}
-use Rattle.tree.specs.Trie.{trie, height}
-use Rattle.tree.specs.Search.{size}
+use Rattle.shape.specs.Trie.{trie, height}
+use Rattle.shape.specs.Search.{size}
 use Rattle.book.specs.Memory.{view}
 use Rattle.questions.specs.declared.Point.{Point}
 use Rattle.questions.specs.declared.turning.Points.{Points}

@@ -7,7 +7,7 @@ use native.Mathlib.Omega.{arith}
 use lib.ListN.{length, set, drop, length-append, length-drop}
 use Rattle.layout.specs.Layout.{ruleNumbers}
 use Rattle.bits.specs.Numbers.{has, Member, NumberSet, NextNumber}
-use Rattle.tree.specs.Tallies.{tally-le}
+use Rattle.shape.specs.Tallies.{tally-le}
 use Rattle.book.specs.Rules.{Rules, each}
 use Rattle.questions.specs.Asking.{numbers, inOrder, keepIf}
 use Rattle.questions.specs.Promises.{Lists}

@@ -12,7 +12,7 @@ use Rattle.term.specs.Cells.{blankForm}
 use Rattle.term.specs.Questions.{Mode}
 use Rattle.term.specs.Machine.{accepts, fillsQuestion, fillsRule}
 use Rattle.term.specs.Counting.{true≢false}
-use Rattle.tree.specs.Tally.{bit, tally}
+use Rattle.shape.specs.Tally.{bit, tally}
 use Rattle.book.specs.Rules.{Rule, Held, nothing, rule, each}
 use Rattle.book.specs.Gathered.{each-split, each-none, rule-inj, not-rule}
 use Rattle.book.specs.Memory.{Passing, rulesIn}

@@ -10,11 +10,10 @@ use Rattle.bits.specs.Numbers.{has, Member, NumberSet}
 use Rattle.term.specs.Cells.{arity, blankOf, blankForm}
 use Rattle.term.specs.Machine.{failed, at, run, done}
 use Rattle.term.specs.Steps.{spot}
-use Rattle.tree.specs.Words.{cellOf, firstOf, nextOf}
-use Rattle.tree.specs.Shape.{Used}
-use Rattle.tree.specs.Trie.{Trie, tip, node, trie, height}
-use Rattle.tree.specs.Search.{hits, size}
-use Rattle.tree.specs.Promises.{Onward}
+use Rattle.links.specs.Words.{cellOf, firstOf, nextOf}
+use Rattle.shape.specs.Shape.{Used}
+use Rattle.shape.specs.Trie.{Trie, tip, node, trie, height}
+use Rattle.shape.specs.Search.{hits, size}
 use Rattle.book.specs.Rules.{Rule, rule, Rules}
 use Rattle.book.specs.Memory.{view, Passing, rulesIn}
 use Rattle.questions.specs.declared.Point.{Point}
@@ -22,6 +21,7 @@ use Rattle.questions.specs.declared.trying.Ways.{Ways}
 use Rattle.questions.specs.declared.turning.Points.{Points}
 use Rattle.questions.specs.Asking.{inOrder}
 use Rattle.questions.specs.Walk.{Walk, reading, next, good}
+use Rattle.links.specs.Siblings.{Onward}
 
 -- At a node whose word is w: the walk before it, and after it.
 abbrev pub walkBefore : List ℕ → ℕ → ℕ → Walk

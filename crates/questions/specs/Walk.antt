@@ -12,12 +12,12 @@ use Rattle.term.specs.Machine.{State, failed, at, step, run, done}
 use Rattle.term.specs.Matching.{AllProper, accepted-whole}
 use Rattle.term.specs.Counting.{true≢false}
 use Rattle.term.specs.Preorder.{same-rest}
-use Rattle.tree.specs.Shape.{Shape, Used, Up}
-use Rattle.tree.specs.Trie.{Trie, tip, node, trie, Bounded}
-use Rattle.tree.specs.Search.{hits, found-good, good-found}
-use Rattle.tree.specs.Search as search
-use Rattle.tree.specs.Leaves.{Leaf, numbered}
-use Rattle.tree.specs.Rows.{passes-tree, up-same}
+use Rattle.shape.specs.Shape.{Shape, Used, Up}
+use Rattle.shape.specs.Trie.{Trie, tip, node, trie, Bounded}
+use Rattle.shape.specs.Search.{hits, found-good, good-found}
+use Rattle.shape.specs.Search as search
+use Rattle.shape.specs.Leaves.{Leaf, numbered}
+use Rattle.shape.specs.Rows.{passes-tree, up-same}
 use Rattle.book.specs.Memory.{View, taken, number, term, form, leaf, leaves, Right}
 use Rattle.book.specs.Forms.{form-row}
 use Rattle.book.specs.Holding.{hanging, term-at, taken-leaf}
@@ -127,7 +127,7 @@ module _ (fq fr : Bool) (q : Row Blank) (wq : Terms 1 q) (v : View) (small : (n 
       ∙ ap (λ (z : Row Blank). done (run fq fr (at 0 q) z)) (form-row (term v j))
 
   leaf-row : (j : ℕ) → taken v j ≡ true → Up (v .tree) (suc (nodesLimit + j)) (reverse (form v j ++ (number v j ∷ [])))
-  leaf-row j u = right .tree .ways _ (Memᴰ·map Rattle.tree.specs.Leaves.endOf (taken-leaf v small right j u))
+  leaf-row j u = right .tree .ways _ (Memᴰ·map Rattle.shape.specs.Leaves.endOf (taken-leaf v small right j u))
 
   -- a node of a form is not found
   inner-bad : (n : ℕ) (r : List ℕ) → n < nodesLimit → Up (v .tree) (suc n) r → good fq fr (search.run (next fq fr) (good fq fr) (reading (at 0 q)) (reverse r)) ≡ false
@@ -135,7 +135,7 @@ module _ (fq fr : Bool) (q : Row Blank) (wq : Terms 1 q) (v : View) (small : (n 
       let g = numbered (hanging v small right) .begins n r l up in
       let x = Memᴰ·of-map (λ (y : Leaf). y .form) (leaves v) (g .among) in
       let y = Memᴰ·of-map (leaf v) _ (x .1) in
-      let u = Rattle.tree.specs.Tallies.of-listed (taken v) rulesLimit (y .1) .0 in
+      let u = Rattle.shape.specs.Tallies.of-listed (taken v) rulesLimit (y .1) .0 in
       let ef : form v (y .0) ≡ g .form = ap (λ (z : Leaf). z .form) (y .2) ∙ x .2 in
       ap (good fq fr) (read-row fq fr (at 0 q) (reverse r) (λ p w e n.
       not-before fq fr q (form v (y .0)) wq (form-terms (y .0) u) p (w ++ g .rest) (sym (append-assoc p w (g .rest)) ∙ ap (λ (z : List ℕ). z ++ g .rest) e ∙ g .is ∙ sym ef)
@@ -157,7 +157,7 @@ module _ (fq fr : Bool) (q : Row Blank) (wq : Terms 1 q) (v : View) (small : (n 
       go (no l) =
           let e : n ≡ nodesLimit + (n - nodesLimit) = omega arith in
           let up : Up (v .tree) (suc (nodesLimit + (n - nodesLimit))) (g .0) = subst (λ (z : ℕ). Up (v .tree) (suc z) (g .0)) e (g .1) in
-          let u : taken v (n - nodesLimit) ≡ true = Rattle.tree.specs.Basics.up-used up in
+          let u : taken v (n - nodesLimit) ≡ true = Rattle.shape.specs.Basics.up-used up in
           let same : reverse (g .0) ≡ form v (n - nodesLimit) ++ (number v (n - nodesLimit) ∷ []) = ap reverse (up-same up (leaf-row (n - nodesLimit) u)) ∙ reverse-reverse _ in
           (n - nodesLimit, e, u, sym (leaf-good (n - nodesLimit) u) ∙ ap (λ (z : List ℕ). good fq fr (search.run (next fq fr) (good fq fr) (reading (at 0 q)) z)) (sym same) ∙ g .2)
 

@@ -30,7 +30,7 @@ fn root(m: &[u64]) -> Point
     requires { ⌜ Passing (now m) ⌝ }
     ensures { λ r. ⌜ IsRoot (now (m .entry)) r ⌝ }
 {
-    let first = tree::first_of(m[layout::LINKS_AT]) as u16;
+    let first = links::first_of(m[layout::LINKS_AT]) as u16;
     Point {
         link: first,
         skip: 0,

@@ -2,7 +2,7 @@
 ghost use mathlib.Core.Path.{_≡_};
 ghost use lib.ListN.{length};
 ghost use Rattle.layout.specs.Layout.{bookWords};
-ghost use Rattle.tree.specs.Words.{cellOf};
+ghost use Rattle.links.specs.Words.{cellOf};
 ghost use Rattle.questions.specs.Promises.{Onwards, Begins, Sought, Threaded};
 use book::Book;
 
@@ -17,11 +17,11 @@ fn onward(m: &[u64], cell: u64, w: u64) -> usize
     ensures { λ r. ⌜ Onwards (now (m .entry)) cell w r ⌝ }
 {
     if cell < MARK {
-        if tree::cell_of(w) < cell {
-            return tree::next_of(w) as usize;
+        if links::cell_of(w) < cell {
+            return links::next_of(w) as usize;
         }
     }
-    tree::signs::to_last(
+    links::signs::to_last(
         &m[0..layout::TREE_WORDS],
         &m[layout::SIGNS_AT..layout::SIGNS_END],
         w,
@@ -40,13 +40,13 @@ fn leap(m: &[u64], cell: u64, link: usize) -> usize
         return link;
     }
     let w = m[layout::LINKS_AT + link];
-    if cell <= tree::cell_of(w) {
+    if cell <= links::cell_of(w) {
         return link;
     }
-    if tree::next_of(w) == 0 {
+    if links::next_of(w) == 0 {
         return link;
     }
-    tree::signs::known(
+    links::signs::known(
         &m[0..layout::TREE_WORDS],
         &m[layout::SIGNS_AT..layout::SIGNS_END],
         link,
@@ -64,7 +64,7 @@ pub fn sibling(m: &[u64], cell: u64, last: u64, link: usize) -> usize
     let mut x = leap(m, cell, link);
     while x != 0 {
         let w = m[layout::LINKS_AT + x];
-        let c = tree::cell_of(w);
+        let c = links::cell_of(w);
         if c == cell {
             return x;
         }

@@ -66,10 +66,10 @@ fn pass_node(m: &[u64], link: usize, left: usize, place: usize) -> Ways
     ensures { λ r. ⌜ PassesNode (now (m .entry)) link left place r ⌝ }
 {
     let w = m[layout::LINKS_AT + link];
-    let skip = left + term::arity(tree::cell_of(w) as u16);
+    let skip = left + term::arity(links::cell_of(w) as u16);
     Ways {
-        beside: tree::next_of(w) as usize,
-        down: tree::first_of(w) as usize,
+        beside: links::next_of(w) as usize,
+        down: links::first_of(w) as usize,
         skip,
         place,
     }
@@ -84,8 +84,8 @@ fn mark_rules(m: &[u64], marks: &mut [u64], link: usize)
     let mut x = link;
     while x != 0 {
         let w = m[layout::LINKS_AT + x];
-        bits::numbers::put(marks, tree::cell_of(w) as usize);
-        x = tree::next_of(w) as usize;
+        bits::numbers::put(marks, links::cell_of(w) as usize);
+        x = links::next_of(w) as usize;
     }
 }
 
@@ -110,13 +110,13 @@ fn meet_node(
         return nowhere();
     }
     let w = m[layout::LINKS_AT + x];
-    let c = tree::cell_of(w) as u16;
+    let c = links::cell_of(w) as u16;
     let s = machine::meet(fills_question, fills_rule, question, c, place);
-    let beside = tree::next_of(w) as usize;
+    let beside = links::next_of(w) as usize;
     if s.alive {
         return Ways {
             beside,
-            down: tree::first_of(w) as usize,
+            down: links::first_of(w) as usize,
             skip: s.skip,
             place: s.place,
         };

@@ -14,7 +14,7 @@ use Rattle.term.specs.Reading.{readTerm}
 use Rattle.term.specs.declared.reading.Reading.the-variants.{Whole}
 use Rattle.book.specs.Filling.{Zeros}
 use Rattle.book.specs.Memory.{view, number, term, blankNumber}
-use Rattle.tree.specs.Words.{cellOf}
+use Rattle.links.specs.Words.{cellOf}
 use Rattle.book.specs.Looking.{rule-number}
 use Rattle.recorded.specs.Promises.{TermOf, TermDecided, RuleAt, RuleDecided}
 

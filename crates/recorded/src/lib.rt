@@ -11,7 +11,7 @@ ghost use Rattle.layout.specs.Layout.{rulesLimit, rulesAt, termWords, bookWords
 ghost use Rattle.term.specs.Reading.{readTerm};
 ghost use Rattle.term.specs.declared.reading.Reading.the-variants.{Whole};
 ghost use Rattle.book.specs.Memory.{blankNumber};
-ghost use Rattle.tree.specs.Words.{cellOf};
+ghost use Rattle.links.specs.Words.{cellOf};
 ghost use Rattle.recorded.specs.Promises.{TermOf, PlainOf, TermDecided, RuleDecided};
 use term::reading;
 use term::reading::Reading;

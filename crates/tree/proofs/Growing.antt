@@ -14,18 +14,18 @@ use Rattle.layout.specs.Layout.{nodeMapWords, nodesLimit, nodeMapLast, mapWords
 use Rattle.bits.specs.Packed.{bits, sum, Skipped, First}
 use Rattle.bits.specs.Laws.{length-bits, get-bit, bit-low}
 use Rattle.term.specs.Counting.{true≢false}
-use Rattle.tree.specs.Basics.{up-live}
-use Rattle.tree.specs.Shape.{Place, Used, owner, Up, Tree}
-use Rattle.tree.specs.Order.{childless}
-use Rattle.tree.specs.Change.{Links, Sorted, Lowest, Grown, none, more}
-use Rattle.tree.specs.Link.{link-tree}
-use Rattle.tree.specs.Partly.{grown-up}
-use Rattle.tree.specs.Tally.{bit, tally}
-use Rattle.tree.specs.Tallies.{tally-more, tally-all, tally-le}
-use Rattle.tree.specs.Words.{shape, place}
+use Rattle.shape.specs.Basics.{up-live}
+use Rattle.shape.specs.Shape.{Hook, Used, owner, Up, Tree}
+use Rattle.shape.specs.Order.{childless}
+use Rattle.shape.specs.Change.{Links, Sorted, Lowest, Grown, none, more}
+use Rattle.shape.specs.Link.{link-tree}
+use Rattle.shape.specs.Partly.{grown-up}
+use Rattle.shape.specs.Tally.{bit, tally}
+use Rattle.shape.specs.Tallies.{tally-more, tally-all, tally-le}
+use Rattle.links.specs.Words.{shape, hook}
 use Rattle.tree.specs.Promises.{Sound, Found, Absent, Descended, Planted}
 use Rattle.tree.specs.Needs.{Room, Next, Growing}
-use Rattle.tree.specs.Limits.{live-low, place-low, nodes-held, node-bit}
+use Rattle.links.specs.Limits.{live-low, hook-low, nodes-held, node-bit}
 use Rattle.tree.proofs.Walking.{found-sorted, take-next}
 
 one-of : (x : ℕ) → x < 2 → ¬ (x ≡ 0) → eqb x 1 ≡ true
@@ -68,7 +68,7 @@ full-none ws = record { within = omega arith; used = λ y h. absurd (omega arith
 pub full-skipped : (ws : List ℕ) (k : ℕ) → Full ws k → Skipped 0 (bits (take nodeMapWords ws)) 0 (k * 64)
 full-skipped ws k f y a h e = true≢false (node-bit ws y (let w = f .within in omega arith) ∙ f .used y h) (ap (λ (x : ℕ). eqb x 1) e)
 
-pub full-on : (ws ws′ : List ℕ) → length ws ≡ treeWords → (n : ℕ) → First 0 (bits (take nodeMapWords ws)) 0 n → n < nodesLimit → {s : Place} {c : ℕ} → Links (shape ws) (shape ws′) s c n
+pub full-on : (ws ws′ : List ℕ) → length ws ≡ treeWords → (n : ℕ) → First 0 (bits (take nodeMapWords ws)) 0 n → n < nodesLimit → {s : Hook} {c : ℕ} → Links (shape ws) (shape ws′) s c n
     → Full ws′ (n / 64)
 full-on ws ws′ size n f l k = record {
   within = omega arith;
@@ -106,7 +106,7 @@ module _ (ws₀ ws : List ℕ) (l₀ l b : ℕ) (form : List ℕ) (i : ℕ) (g :
       chain-room h = record {
         size = g .growing .size;
         owner = live-low ws (g .growing .size) l (g .growing .live);
-        sibling = place-low ws (g .growing .size) l b (f .valid);
+        sibling = hook-low ws (g .growing .size) l b (f .valid);
         node = (let l = chain-low in omega arith);
         cell = h;
         free = lowest .free;
@@ -114,12 +114,12 @@ module _ (ws₀ ws : List ℕ) (l₀ l b : ℕ) (form : List ℕ) (i : ℕ) (g :
         under = f .under;
       }
 
-      module _ (ws′ : List ℕ) (same : length ws′ ≡ length ws) (k : Links (shape ws) (shape ws′) (place l b) c n) where
-        sorted : Sorted (shape ws) (place l b) c
+      module _ (ws′ : List ℕ) (same : length ws′ ≡ length ws) (k : Links (shape ws) (shape ws′) (hook l b) c n) where
+        sorted : Sorted (shape ws) (hook l b) c
         sorted = found-sorted (g .growing .tree) f (λ y u e d. g .growing .absent hi y u e (d ∙ ec))
 
         tree′ : Tree (shape ws′)
-        tree′ = link-tree (shape ws) (shape ws′) (place l b) c n (g .growing .tree) sorted k
+        tree′ = link-tree (shape ws) (shape ws′) (hook l b) c n (g .growing .tree) sorted k
 
         -- the new node has no child, so what comes next is its first
         first-child : (d : ℕ) → Found (shape ws′) (suc n) 0 d
@@ -137,7 +137,7 @@ module _ (ws₀ ws : List ℕ) (l₀ l b : ℕ) (form : List ℕ) (i : ℕ) (g :
             room = let a = tally-more (shape ws .used) (shape ws′ .used) n nodesLimit chain-low (k .was) (k .now) (k .kept .used) in omega (arith, g .growing .room);
           };
           grown = subst (λ (r : List ℕ). Grown (shape ws₀) l₀ r (shape ws′) (suc n)) (ap (λ (d : ℕ). d ∷ reverse (take i form)) ec ∙ sym (take-next form i hi))
-              (more (place l b) (g .grown) lowest sorted (f .under) k);
+              (more (hook l b) (g .grown) lowest sorted (f .under) k);
         })
 
 -- ---- are there nodes enough?

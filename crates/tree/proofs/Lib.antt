@@ -3,4 +3,3 @@ pub mod Stores
 pub mod Walking
 pub mod Growing
 pub mod Trimming
-pub mod Leaping

@@ -12,23 +12,14 @@ use lib.Seq.{getD-set-same, getD-set-other, take-set-le, take-at, getD-append-ad
 use native.Mathlib.Nat.{suc-inj}
 use Rattle.layout.specs.Layout.{mapWords, linksAt, nodesAt, lastLink, treeWords}
 use Rattle.bits.specs.Packed.{bits}
-use Rattle.tree.specs.Shape.{Place, child, after, to}
-use Rattle.tree.specs.Effects.{Puts, Flips, Writes}
-use Rattle.tree.specs.Tally.{marked}
-use Rattle.tree.specs.Tallies.{mark-here, mark-other}
-use Rattle.tree.specs.Words.{cellOf, parentOf, firstOf, nextOf, word, shape, place, Node}
-use Rattle.tree.specs.Limits.{map-long}
+use Rattle.shape.specs.Shape.{Hook, child, after, to}
+use Rattle.shape.specs.Effects.{Leads, Flips, Writes}
+use Rattle.shape.specs.Tally.{marked}
+use Rattle.shape.specs.Tallies.{mark-here, mark-other}
+use Rattle.links.specs.Words.{cellOf, parentOf, firstOf, nextOf, word, shape, hook, Node}
+use Rattle.links.specs.Limits.{map-long}
 
--- ---- numbers and places that fit
-
-pub at-fits : {l : ℕ} → l ≤ lastLink → Fits w64 (linksAt + l)
-at-fits h = omega arith
-
-pub at-bytes : {l : ℕ} → l ≤ lastLink → Fits w64 ((linksAt + l) * 8)
-at-bytes h = omega arith
-
-pub at-in : {k l : ℕ} → k ≡ treeWords → l ≤ lastLink → linksAt + l < k
-at-in size h = omega arith
+-- ---- numbers and hooks that fit
 
 pub next-fits : {n : ℕ} → n < lastLink → Fits w64 (n + 1)
 next-fits h = omega arith
@@ -57,16 +48,16 @@ module _ (ws : List ℕ) (size : length ws ≡ treeWords) (q : ℕ) (hq : q ≤ 
   used-kept : (y : ℕ) → shape (set ws (linksAt + q) w) .used y ≡ shape ws .used y
   used-kept y = ap (λ (l : List ℕ). marked l y) (take-set-le mapWords ws (linksAt + q) w (omega arith))
 
-  put-first : (x : ℕ) → Node w (cellOf (word ws q)) (parentOf (word ws q)) x (nextOf (word ws q)) → Puts (shape ws) (shape (set ws (linksAt + q) w)) (child q) x
+  put-first : (x : ℕ) → Node w (cellOf (word ws q)) (parentOf (word ws q)) x (nextOf (word ws q)) → Leads (shape ws) (shape (set ws (linksAt + q) w)) (child q) x
   put-first x n = record
       { here = ap firstOf at-q ∙ n .first; used = used-kept; cell = λ y. kept cellOf (n .cell) (suc y); parent = λ y. kept parentOf (n .parent) (suc y); others = others }
     where
-      others : (z : Place) → ¬ (z ≡ child q) → to (shape (set ws (linksAt + q) w)) z ≡ to (shape ws) z
+      others : (z : Hook) → ¬ (z ≡ child q) → to (shape (set ws (linksAt + q) w)) z ≡ to (shape ws) z
       others (child l) h = ap firstOf (at-other l (λ d. h (ap child d)))
       others (after y) h = kept nextOf (n .next) (suc y)
 
   put-after : (k x : ℕ) → q ≡ suc k → Node w (cellOf (word ws q)) (parentOf (word ws q)) (firstOf (word ws q)) x
-      → Puts (shape ws) (shape (set ws (linksAt + q) w)) (after k) x
+      → Leads (shape ws) (shape (set ws (linksAt + q) w)) (after k) x
   put-after k x e n = record {
     here = ap (λ (b : ℕ). nextOf (word (set ws (linksAt + q) w) b)) (sym e) ∙ ap nextOf at-q ∙ n .next;
     used = used-kept;
@@ -75,7 +66,7 @@ module _ (ws : List ℕ) (size : length ws ≡ treeWords) (q : ℕ) (hq : q ≤ 
     others = others;
   }
     where
-      others : (z : Place) → ¬ (z ≡ after k) → to (shape (set ws (linksAt + q) w)) z ≡ to (shape ws) z
+      others : (z : Hook) → ¬ (z ≡ after k) → to (shape (set ws (linksAt + q) w)) z ≡ to (shape ws) z
       others (child l) h = kept firstOf (n .first) l
       others (after y) h = ap nextOf (at-other (suc y) (λ d. h (ap after (suc-inj (d ∙ e)))))
 
@@ -88,7 +79,7 @@ module _ (ws : List ℕ) (size : length ws ≡ treeWords) (q : ℕ) (hq : q ≤ 
     used = used-kept;
     cells = λ y h. ap cellOf (other y h);
     parents = λ y h. ap parentOf (other y h);
-    places = places;
+    hooks = hooks;
   }
     where
       at-n : word (set ws (linksAt + q) w) (suc n) ≡ w
@@ -97,33 +88,33 @@ module _ (ws : List ℕ) (size : length ws ≡ treeWords) (q : ℕ) (hq : q ≤ 
       other : (y : ℕ) → ¬ (y ≡ n) → word (set ws (linksAt + q) w) (suc y) ≡ word ws (suc y)
       other y h = at-other (suc y) (λ d. h (suc-inj (d ∙ e)))
 
-      places : (z : Place) → ¬ (z ≡ after n) → ¬ (z ≡ child (suc n)) → to (shape (set ws (linksAt + q) w)) z ≡ to (shape ws) z
-      places (child l) a b = ap firstOf (at-other l (λ d. b (ap child (d ∙ e))))
-      places (after y) a b = ap nextOf (other y (λ d. a (ap after d)))
+      hooks : (z : Hook) → ¬ (z ≡ after n) → ¬ (z ≡ child (suc n)) → to (shape (set ws (linksAt + q) w)) z ≡ to (shape ws) z
+      hooks (child l) a b = ap firstOf (at-other l (λ d. b (ap child (d ∙ e))))
+      hooks (after y) a b = ap nextOf (other y (λ d. a (ap after d)))
 
 -- as the code has it
 module _ (ws : List ℕ) (size : length ws ≡ treeWords) (p b : ℕ) where
   pub puts-first : b ≡ 0 → p ≤ lastLink → (w x : ℕ) → Node w (cellOf (word ws p)) (parentOf (word ws p)) x (nextOf (word ws p))
-      → Puts (shape ws) (shape (set ws (linksAt + p) w)) (place p b) x
+      → Leads (shape ws) (shape (set ws (linksAt + p) w)) (hook p b) x
   puts-first e hp w x n = go b e
     where
-      go : (b : ℕ) → b ≡ 0 → Puts (shape ws) (shape (set ws (linksAt + p) w)) (place p b) x
+      go : (b : ℕ) → b ≡ 0 → Leads (shape ws) (shape (set ws (linksAt + p) w)) (hook p b) x
       go zero e = put-first ws size p hp w x n
       go (suc k) e = absurd (omega arith)
 
   pub puts-after : ¬ (b ≡ 0) → b ≤ lastLink → (w x : ℕ) → Node w (cellOf (word ws b)) (parentOf (word ws b)) (firstOf (word ws b)) x
-      → Puts (shape ws) (shape (set ws (linksAt + b) w)) (place p b) x
+      → Leads (shape ws) (shape (set ws (linksAt + b) w)) (hook p b) x
   puts-after h hb w x n = go b refl
     where
-      go : (c : ℕ) → b ≡ c → Puts (shape ws) (shape (set ws (linksAt + b) w)) (place p c) x
+      go : (c : ℕ) → b ≡ c → Leads (shape ws) (shape (set ws (linksAt + b) w)) (hook p c) x
       go zero e = absurd (h e)
       go (suc k) e = put-after ws size b hb w k x e n
 
-pub gets-first : (ws : List ℕ) (p b r : ℕ) → b ≡ 0 → r ≡ firstOf (word ws p) → to (shape ws) (place p b) ≡ r
+pub gets-first : (ws : List ℕ) (p b r : ℕ) → b ≡ 0 → r ≡ firstOf (word ws p) → to (shape ws) (hook p b) ≡ r
 gets-first ws p zero r e h = sym h
 gets-first ws p (suc b) r e h = absurd (omega arith)
 
-pub gets-next : (ws : List ℕ) (p b r : ℕ) → ¬ (b ≡ 0) → r ≡ nextOf (word ws b) → to (shape ws) (place p b) ≡ r
+pub gets-next : (ws : List ℕ) (p b r : ℕ) → ¬ (b ≡ 0) → r ≡ nextOf (word ws b) → to (shape ws) (hook p b) ≡ r
 gets-next ws p zero r e h = absurd (e refl)
 gets-next ws p (suc b) r e h = sym h
 
@@ -141,7 +132,7 @@ flips ws map n v size hn same e = record {
   used = λ y h. front y ∙ mark-other (take mapWords ws) map n v low e y h;
   cell = λ y. ap cellOf (word-is (suc y));
   parent = λ y. ap parentOf (word-is (suc y));
-  places = places;
+  hooks = hooks;
 }
   where
     long : length map ≡ mapWords
@@ -160,11 +151,11 @@ flips ws map n v size hn same e = record {
         let f : mapWords + k ≡ linksAt + l = omega arith in
         ap (λ (j : ℕ). getD (map ++ drop mapWords ws) j 0) e ∙ getD-append-add map (drop mapWords ws) k 0 ∙ getD-drop mapWords ws k 0 ∙ ap (λ (j : ℕ). getD ws j 0) f
 
-    places : (z : Place) → to (shape (map ++ drop mapWords ws)) z ≡ to (shape ws) z
-    places (child l) = ap firstOf (word-is l)
-    places (after y) = ap nextOf (word-is (suc y))
+    hooks : (z : Hook) → to (shape (map ++ drop mapWords ws)) z ≡ to (shape ws) z
+    hooks (child l) = ap firstOf (word-is l)
+    hooks (after y) = ap nextOf (word-is (suc y))
 
 -- a link has 16 bits
-pub link-fits : (ws : List ℕ) (p b r : ℕ) → to (shape ws) (place p b) ≡ r → r < 65536
+pub link-fits : (ws : List ℕ) (p b r : ℕ) → to (shape ws) (hook p b) ≡ r → r < 65536
 link-fits ws p zero r e = omega arith
 link-fits ws p (suc k) r e = omega arith

@@ -6,21 +6,22 @@ use native.Mathlib.Omega.{arith}
 use lib.ListN.{length, getD, set, take, drop}
 use Rattle.layout.specs.Layout.{mapWords, nodesAt, lastLink, treeWords}
 use Rattle.bits.specs.Packed.{bits}
-use Rattle.tree.specs.Shape.{Shape, Used, Live, Tree}
-use Rattle.tree.specs.Order.{parent-live, childless}
-use Rattle.tree.specs.Change.{Unlinks, Trimmed, root, stays, goes}
-use Rattle.tree.specs.Unlink.{unlink-tree}
-use Rattle.tree.specs.Effects.{Puts, unlinked}
-use Rattle.tree.specs.Tally.{tally}
-use Rattle.tree.specs.Tallies.{tally-more}
-use Rattle.tree.specs.Words.{cellOf, parentOf, firstOf, nextOf, word, shape, place}
+use Rattle.shape.specs.Shape.{Shape, Used, Live, Tree}
+use Rattle.shape.specs.Order.{parent-live, childless}
+use Rattle.shape.specs.Change.{Unlinks, Trimmed, root, stays, goes}
+use Rattle.shape.specs.Unlink.{unlink-tree}
+use Rattle.shape.specs.Effects.{Leads, unlinked}
+use Rattle.shape.specs.Tally.{tally}
+use Rattle.shape.specs.Tallies.{tally-more}
+use Rattle.links.specs.Words.{cellOf, parentOf, firstOf, nextOf, word, shape, hook}
 use Rattle.tree.specs.Promises.{Sound, Found}
-use Rattle.tree.specs.Needs.{Ready, Leaf, Unlinked}
-use Rattle.tree.specs.Limits.{used-low, live-low, place-low}
+use Rattle.tree.specs.Needs.{Childless, Unlinked}
+use Rattle.links.specs.Limits.{used-low, live-low, hook-low}
 use Rattle.tree.proofs.Stores.{node-word, flips}
 use Rattle.tree.proofs.Walking.{found-child}
+use Rattle.links.specs.Siblings.{Ready}
 
-module _ (ws : List ℕ) (n p : ℕ) (l : Leaf ws n) (ep : p ≡ parentOf (getD ws (nodesAt + n) 0)) where
+module _ (ws : List ℕ) (n p : ℕ) (l : Childless ws n) (ep : p ≡ parentOf (getD ws (nodesAt + n) 0)) where
   pub leaf-ready : Ready ws p
   leaf-ready =
       let live = subst (λ (k : ℕ). Live (shape ws) k) (sym (ep ∙ ap parentOf (node-word ws n))) (parent-live (shape ws) (l .tree) n (l .used)) in
@@ -28,16 +29,16 @@ module _ (ws : List ℕ) (n p : ℕ) (l : Leaf ws n) (ep : p ≡ parentOf (getD 
 
   module _ (b c x : ℕ) (ec : c ≡ cellOf (getD ws (nodesAt + n) 0)) (ex : x ≡ nextOf (getD ws (nodesAt + n) 0)) (f : Found (shape ws) p b c) where
     pub leaf-low : (p ≤ lastLink) × (b ≤ lastLink) × (x < 65536)
-    leaf-low = (live-low ws (l .size) p (leaf-ready .live), place-low ws (l .size) p b (f .valid), omega arith)
+    leaf-low = (live-low ws (l .size) p (leaf-ready .live), hook-low ws (l .size) p b (f .valid), omega arith)
 
-    pub leaf-unlinked : (ws₁ map : List ℕ) → length ws₁ ≡ length ws → Puts (shape ws) (shape ws₁) (place p b) x
+    pub leaf-unlinked : (ws₁ map : List ℕ) → length ws₁ ≡ length ws → Leads (shape ws) (shape ws₁) (hook p b) x
         → length map ≡ length (take mapWords ws₁) → bits map ≡ set (bits (take mapWords ws₁)) n 0 → Unlinked (shape ws) (shape (map ++ drop mapWords ws₁)) n
     leaf-unlinked ws₁ map same q long cleared =
         let e = node-word ws n in
         record {
-          at = place p b;
+          at = hook p b;
           unlinks = unlinked (f .valid) (found-child (l .tree) f n (l .used) (sym (ep ∙ ap parentOf e)) (sym (ec ∙ ap cellOf e))) (l .leaf)
-              (subst (λ (k : ℕ). Puts (shape ws) (shape ws₁) (place p b) k) (ex ∙ ap nextOf e) q) (flips ws₁ map n 0 (same ∙ l .size) (l .node) long cleared);
+              (subst (λ (k : ℕ). Leads (shape ws) (shape ws₁) (hook p b) k) (ex ∙ ap nextOf e) q) (flips ws₁ map n 0 (same ∙ l .size) (l .node) long cleared);
         }
 
 -- the loop: it is at the link l, and what trimming from there gives is the whole
@@ -61,11 +62,11 @@ module _ (ws₀ ws : List ℕ) (l₀ : ℕ) where
   trim-stays (suc n) zero h e k t = absurd (k refl)
   trim-stays (suc n) (suc j) h e k t = t .so-far (shape ws) (stays (sym e))
 
-  pub trim-leaf : (l f : ℕ) → ¬ (l ≡ 0) → f ≡ firstOf (word ws l) → f ≡ 0 → Trimming ws₀ ws l₀ l → Leaf ws (l - 1)
+  pub trim-leaf : (l f : ℕ) → ¬ (l ≡ 0) → f ≡ firstOf (word ws l) → f ≡ 0 → Trimming ws₀ ws l₀ l → Childless ws (l - 1)
   trim-leaf zero f h e k t = absurd (h refl)
   trim-leaf (suc n) f h e k t =
       let q : n ≡ suc n - 1 = omega arith in
-      subst (λ (j : ℕ). Leaf ws j) q (record { size = t .size; node = t .low; tree = t .tree; used = t .live; leaf = sym e ∙ k })
+      subst (λ (j : ℕ). Childless ws j) q (record { size = t .size; node = t .low; tree = t .tree; used = t .live; leaf = sym e ∙ k })
 
   module _ (ws′ : List ℕ) where
     at-node : (n : ℕ) (u : Unlinked (shape ws) (shape ws′) (suc n - 1)) → Unlinks (shape ws) (shape ws′) (u .at) n

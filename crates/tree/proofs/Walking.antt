@@ -1,4 +1,4 @@
--- A walk along the children of a link stops at the place of a cell; a walk down from the root follows the cells of a form
+-- A walk along the children of a link stops at the hook of a cell; a walk down from the root follows the cells of a form
 use mathlib.Core.Path.{_≡_, refl, sym, ap, _∙_, subst}
 use mathlib.Core.Logic.{_⊎_, inl, inr}
 use mathlib.Core.List.{List, [], _∷_, reverse, reverse-append}
@@ -8,73 +8,40 @@ use native.Mathlib.Omega.{arith}
 use lib.ListN.{length, getD, take}
 use lib.Seq.{take-suc}
 use Rattle.layout.specs.Layout.{lastLink, treeWords}
-use Rattle.tree.specs.Basics.{up-live}
-use Rattle.tree.specs.Shape.{Shape, Place, child, after, Used, Valid, to, owner, floor, Fits, Up, top, down, Tree}
-use Rattle.tree.specs.Order.{ahead}
-use Rattle.tree.specs.Change.{Sorted}
-use Rattle.tree.specs.Words.{cellOf, parentOf, firstOf, nextOf, word, shape, place}
-use Rattle.tree.specs.Promises.{Sound, Before, Found, Absent, Descended, Further}
-use Rattle.tree.specs.Needs.{Ready, ChildWith, Next}
-use Rattle.tree.specs.Limits.{used-low, live-low, place-low}
+use Rattle.shape.specs.Basics.{up-live}
+use Rattle.shape.specs.Shape.{Shape, Hook, child, after, Used, Valid, to, owner, floor, Fits, Up, top, down, Tree}
+use Rattle.shape.specs.Order.{ahead}
+use Rattle.shape.specs.Change.{Sorted}
+use Rattle.links.specs.Words.{cellOf, parentOf, firstOf, nextOf, word, shape, hook}
+use Rattle.tree.specs.Promises.{Sound, Found, Absent, Descended}
+use Rattle.tree.specs.Needs.{ChildWith, Next}
+use Rattle.links.specs.Limits.{used-low, live-low, hook-low}
+use Rattle.links.specs.Siblings.{Before, Further, Ready, link-low}
 
 -- ---- along the children of p: behind b, and x comes next
 
-pub record Walk (ws : List ℕ) (p b c x : ℕ) : Type 0 where
-  pub valid : Valid (shape ws) (place p b)
-  pub under : owner (shape ws) (place p b) ≡ p
-  pub above : floor (shape ws) (place p b) ≤ c
-  pub leads : to (shape ws) (place p b) ≡ x
+pub record Along (ws : List ℕ) (p b c x : ℕ) : Type 0 where
+  pub valid : Valid (shape ws) (hook p b)
+  pub under : owner (shape ws) (hook p b) ≡ p
+  pub above : floor (shape ws) (hook p b) ≤ c
+  pub leads : to (shape ws) (hook p b) ≡ x
   pub low : x ≤ lastLink
 
--- where a link leads there is a node of the memory
-link-low : (ws : List ℕ) → length ws ≡ treeWords → Tree (shape ws) → (s : Place) → Valid (shape ws) s → (x : ℕ) → to (shape ws) s ≡ x → x ≤ lastLink
-link-low ws size t s v zero e = omega arith
-link-low ws size t s v (suc k) e = used-low ws size k (t .goes s v e .used)
-
-pub walk-start : (ws : List ℕ) (p b c x : ℕ) → Ready ws p → Before (shape ws) p b c → to (shape ws) (place p b) ≡ x → Walk ws p b c x
-walk-start ws p b c x r f e = record { valid = f .valid; under = f .under; above = f .above; leads = e; low = link-low ws (r .size) (r .tree) (place p b) (f .valid) x e }
-
--- ---- where to begin: before all children, at the first, or at one further on than that
-
-pub before-all : (ws : List ℕ) (p c : ℕ) → Ready ws p → Before (shape ws) p 0 c
-before-all ws p c r = record { valid = r .live; under = refl; above = omega arith }
-
-pub first-link : (ws : List ℕ) (p x : ℕ) → Ready ws p → x ≡ firstOf (word ws p) → x ≤ lastLink
-first-link ws p x r e = link-low ws (r .size) (r .tree) (child p) (r .live) x (sym e)
-
-module _ (ws : List ℕ) (p c x v : ℕ) (r : Ready ws p) (n : ¬ (x ≡ 0)) (e : x ≡ firstOf (word ws p)) (ev : v ≡ cellOf (word ws x)) (l : v < c) where
-  pub from-known : (y : ℕ) → (y ≡ x) ⊎ Further (shape ws) (word ws x) (c - 1) y → Before (shape ws) p y c
-  from-known y h = go x refl h
-    where
-      go : (z : ℕ) → x ≡ z → (y ≡ x) ⊎ Further (shape ws) (word ws x) (c - 1) y → Before (shape ws) p y c
-      go zero q h = absurd (n q)
-      go (suc k) q h = by h
-        where
-          g : Fits (shape ws) (child p) k
-          g = r .tree .goes (child p) (r .live) (sym e ∙ q)
-
-          same : shape ws .cell k ≡ v
-          same = ap (λ (i : ℕ). cellOf (word ws i)) (sym q) ∙ sym ev
-
-          parents : shape ws .parent k ≡ parentOf (word ws x)
-          parents = ap (λ (i : ℕ). parentOf (word ws i)) (sym q)
-
-          by : (y ≡ x) ⊎ Further (shape ws) (word ws x) (c - 1) y → Before (shape ws) p y c
-          by (inl d) = subst (λ (i : ℕ). Before (shape ws) p i c) (sym (d ∙ q)) (record { valid = g .used; under = g .under; above = omega (arith, same, l) })
-          by (inr f) = subst (λ (i : ℕ). Before (shape ws) p i c) (sym (f .leads)) (record { valid = f .used; under = f .beside ∙ sym parents ∙ g .under; above = let h = f .near in omega (arith, l) })
+pub walk-start : (ws : List ℕ) (p b c x : ℕ) → Ready ws p → Before (shape ws) p b c → to (shape ws) (hook p b) ≡ x → Along ws p b c x
+walk-start ws p b c x r f e = record { valid = f .valid; under = f .under; above = f .above; leads = e; low = link-low ws (r .size) (r .tree) (hook p b) (f .valid) x e }
 
 module _ (ws : List ℕ) (size : length ws ≡ treeWords) (t : Tree (shape ws)) (p b c : ℕ) where
-  pub walk-on : (x v y : ℕ) → ¬ (x ≡ 0) → Walk ws p b c x → v ≡ cellOf (word ws x) → v < c → y ≡ nextOf (word ws x) → Walk ws p x c y
+  pub walk-on : (x v y : ℕ) → ¬ (x ≡ 0) → Along ws p b c x → v ≡ cellOf (word ws x) → v < c → y ≡ nextOf (word ws x) → Along ws p x c y
   walk-on zero v y h w e l f = absurd (h refl)
   walk-on (suc k) v y h w e l f =
-      let g = t .goes (place p b) (w .valid) (w .leads) in
+      let g = t .goes (hook p b) (w .valid) (w .leads) in
       record { valid = g .used; under = g .under ∙ w .under; above = omega arith; leads = sym f; low = link-low ws size t (after k) (g .used) y (sym f) }
 
-  pub walk-less : (x v : ℕ) → ¬ (x ≡ 0) → Walk ws p b c x → v ≡ cellOf (word ws x) → v < c → c - floor (shape ws) (place p x) < c - floor (shape ws) (place p b)
+  pub walk-less : (x v : ℕ) → ¬ (x ≡ 0) → Along ws p b c x → v ≡ cellOf (word ws x) → v < c → c - floor (shape ws) (hook p x) < c - floor (shape ws) (hook p b)
   walk-less zero v h w e l = absurd (h refl)
-  walk-less (suc k) v h w e l = let g = t .goes (place p b) (w .valid) (w .leads) in omega (arith, g .above)
+  walk-less (suc k) v h w e l = let g = t .goes (hook p b) (w .valid) (w .leads) in omega (arith, g .above)
 
-  pub walk-found : (x v : ℕ) → ¬ (x ≡ 0) → Walk ws p b c x → v ≡ cellOf (word ws x) → c ≤ v → Found (shape ws) p b c
+  pub walk-found : (x v : ℕ) → ¬ (x ≡ 0) → Along ws p b c x → v ≡ cellOf (word ws x) → c ≤ v → Found (shape ws) p b c
   walk-found zero v h w e l = absurd (h refl)
   walk-found (suc k) v h w e l = record {
     valid = w .valid;
@@ -83,28 +50,28 @@ module _ (ws : List ℕ) (size : length ws ≡ treeWords) (t : Tree (shape ws)) 
     below = λ {k = y} q. let d : k ≡ y = omega (arith, sym (w .leads) ∙ q) in subst (λ (z : ℕ). c ≤ shape ws .cell z) d (rw e at l);
   }
 
-  pub walk-end : (x : ℕ) → x ≡ 0 → Walk ws p b c x → Found (shape ws) p b c
+  pub walk-end : (x : ℕ) → x ≡ 0 → Along ws p b c x → Found (shape ws) p b c
   walk-end x e w = record { valid = w .valid; under = w .under; above = w .above; below = λ q. absurd (omega (arith, sym (w .leads) ∙ q)) }
 
 -- ---- what was found
 
 module _ {m : Shape} (t : Tree m) {p b c : ℕ} (f : Found m p b c) where
-  -- where no child has the cell, the place is the sorted one
-  pub found-sorted : Absent m p c → Sorted m (place p b) c
+  -- where no child has the cell, the hook is the sorted one
+  pub found-sorted : Absent m p c → Sorted m (hook p b) c
   found-sorted h = record {
     valid = f .valid;
     above = f .above;
-    below = λ {x} e. let g = t .goes (place p b) (f .valid) e in let d = h x (g .used) (g .under ∙ f .under) in omega (arith, f .below e);
+    below = λ {x} e. let g = t .goes (hook p b) (f .valid) e in let d = h x (g .used) (g .under ∙ f .under) in omega (arith, f .below e);
   }
 
   -- where a child has it, it comes next
-  pub found-child : (n : ℕ) → Used m n → m .parent n ≡ p → m .cell n ≡ c → to m (place p b) ≡ suc n
+  pub found-child : (n : ℕ) → Used m n → m .parent n ≡ p → m .cell n ≡ c → to m (hook p b) ≡ suc n
   found-child n u e d = go (q .2)
     where
-      q : (k : ℕ) × (to m (place p b) ≡ suc k) × ((k ≡ n) ⊎ (m .cell k < m .cell n))
-      q = ahead m t (place p b) (f .valid) n u (e ∙ sym (f .under)) (omega (arith, f .above))
+      q : (k : ℕ) × (to m (hook p b) ≡ suc k) × ((k ≡ n) ⊎ (m .cell k < m .cell n))
+      q = ahead m t (hook p b) (f .valid) n u (e ∙ sym (f .under)) (omega (arith, f .above))
 
-      go : (q .0 ≡ n) ⊎ (m .cell (q .0) < m .cell n) → to m (place p b) ≡ suc n
+      go : (q .0 ≡ n) ⊎ (m .cell (q .0) < m .cell n) → to m (hook p b) ≡ suc n
       go (inl x) = q .1 ∙ ap suc x
       go (inr x) = absurd (omega (arith, f .below (q .1)))
 
@@ -128,11 +95,11 @@ take-next form i h = ap reverse (take-suc form i 0 h) ∙ reverse-append (take i
 
 module _ (ws : List ℕ) (p b c x : ℕ) (r : Ready ws p) (f : Found (shape ws) p b c) where
   pub child-low : (p ≤ lastLink) × (b ≤ lastLink)
-  child-low = (live-low ws (r .size) p (r .live), place-low ws (r .size) p b (f .valid))
+  child-low = (live-low ws (r .size) p (r .live), hook-low ws (r .size) p b (f .valid))
 
-  module _ (e : to (shape ws) (place p b) ≡ x) where
+  module _ (e : to (shape ws) (hook p b) ≡ x) where
     pub next-low : x ≤ lastLink
-    next-low = link-low ws (r .size) (r .tree) (place p b) (f .valid) x e
+    next-low = link-low ws (r .size) (r .tree) (hook p b) (f .valid) x e
 
     -- the child that would have the cell is the one that comes next
     no-child : ((k : ℕ) → x ≡ suc k → ¬ (shape ws .cell k ≡ c)) → ChildWith (shape ws) p c 0
@@ -148,7 +115,7 @@ module _ (ws : List ℕ) (p b c x : ℕ) (r : Ready ws p) (f : Found (shape ws) 
     it-comes v n h q = record {
       none = λ z. absurd (n z);
       some = λ k z.
-          let g = r .tree .goes (place p b) (f .valid) (e ∙ z) in
+          let g = r .tree .goes (hook p b) (f .valid) (e ∙ z) in
           (g .used, g .under ∙ f .under, sym (ap (λ (y : ℕ). cellOf (word ws y)) z) ∙ sym h ∙ q);
     }
 

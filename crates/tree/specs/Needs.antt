@@ -5,20 +5,14 @@ use mathlib.Core.Bool.{false}
 use Prim.Native.Nat.{ℕ, suc, _+_, _≤_, _<_}
 use lib.ListN.{length, getD}
 use Rattle.layout.specs.Layout.{nodesLimit, lastLink, treeWords}
-use Rattle.tree.specs.Shape.{Shape, Place, Used, Live, Valid, Tree}
-use Rattle.tree.specs.Shape as shapes
-use Rattle.tree.specs.Change.{Unlinks}
-use Rattle.tree.specs.Tally.{tally}
-use Rattle.tree.specs.Words.{shape, place}
+use Rattle.shape.specs.Shape.{Shape, Hook, Used, Live, Valid, Tree}
+use Rattle.shape.specs.Shape as shapes
+use Rattle.shape.specs.Change.{Unlinks}
+use Rattle.shape.specs.Tally.{tally}
+use Rattle.links.specs.Words.{shape, hook}
 use Rattle.tree.specs.Promises.{Absent, Found}
 
--- a walk among the children of p
-pub record Ready (ws : List ℕ) (p : ℕ) : Type 0 where
-  pub size : length ws ≡ treeWords
-  pub tree : Tree (shape ws)
-  pub live : Live (shape ws) p
-
--- a place of p for the free node n with the cell c
+-- a hook of p for the free node n with the cell c
 pub record Room (ws : List ℕ) (p b n c : ℕ) : Type 0 where
   pub size : length ws ≡ treeWords
   pub owner : p ≤ lastLink
@@ -26,10 +20,10 @@ pub record Room (ws : List ℕ) (p b n c : ℕ) : Type 0 where
   pub node : n < lastLink
   pub cell : c < 65536
   pub free : shape ws .used n ≡ false
-  pub valid : Valid (shape ws) (place p b)
-  pub under : shapes.owner (shape ws) (place p b) ≡ p
+  pub valid : Valid (shape ws) (hook p b)
+  pub under : shapes.owner (shape ws) (hook p b) ≡ p
 
--- the cell i of the form, where there is one, has its place among the children of l behind b
+-- the cell i of the form, where there is one, has its hook among the children of l behind b
 abbrev pub Next : Shape → List ℕ → ℕ → ℕ → ℕ → Type 0
 Next m form l i b = i < length form → Found m l b (getD form i 0)
 
@@ -48,7 +42,7 @@ pub record Growing (ws : List ℕ) (l b : ℕ) (form : List ℕ) (i : ℕ) : Typ
   pub room : tally (shape ws .used) nodesLimit + length form ≤ nodesLimit + i
   pub within : i ≤ length form
 
-pub record Leaf (ws : List ℕ) (n : ℕ) : Type 0 where
+pub record Childless (ws : List ℕ) (n : ℕ) : Type 0 where
   pub size : length ws ≡ treeWords
   pub node : n < lastLink
   pub tree : Tree (shape ws)
@@ -56,5 +50,5 @@ pub record Leaf (ws : List ℕ) (n : ℕ) : Type 0 where
   pub leaf : shape ws .first (suc n) ≡ 0
 
 pub record Unlinked (m m′ : Shape) (n : ℕ) : Type 0 where
-  pub at : Place
+  pub at : Hook
   pub unlinks : Unlinks m m′ at n

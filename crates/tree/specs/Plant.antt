@@ -8,13 +8,13 @@ use native.Mathlib.Omega.{arith}
 use lib.ListN.{length, take, drop, take-append-drop, length-drop, length-reverse}
 use lib.Seq.{drop-cons}
 use Rattle.layout.specs.Layout.{nodesLimit}
-use Rattle.tree.specs.Shape.{Up, End, Passes, Shape, down, On, Covered}
-use Rattle.tree.specs.Rows.{up-same, on-row}
-use Rattle.tree.specs.Partly.{Partly, begin-add, grown-partly, on-short}
-use Rattle.tree.specs.Tally.{tally}
-use Rattle.tree.specs.NodeCount.{node-count, nodes-more}
-use Rattle.tree.specs.Leaves.{Leaf, bases, Hanging, inner, numbered, endOf, ends}
-use Rattle.tree.specs.Words.{shape}
+use Rattle.shape.specs.Shape.{Up, End, Passes, Shape, down, On, Covered}
+use Rattle.shape.specs.Rows.{up-same, on-row}
+use Rattle.shape.specs.Partly.{Partly, begin-add, grown-partly, on-short}
+use Rattle.shape.specs.Tally.{tally}
+use Rattle.shape.specs.NodeCount.{node-count, nodes-more}
+use Rattle.shape.specs.Leaves.{Leaf, bases, Hanging, inner, numbered, endOf, ends}
+use Rattle.links.specs.Words.{shape}
 use Rattle.tree.specs.Promises.{Absent, Planted}
 
 module _ (ws ws′ form : List ℕ) (link : ℕ) (p : Planted ws ws′ form link) where

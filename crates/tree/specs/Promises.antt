@@ -6,10 +6,10 @@ use mathlib.Core.Bool.{true, false}
 use Prim.Native.Nat.{ℕ, suc, _+_, _-_, _≤_, _<_}
 use lib.ListN.{length, getD, take, drop}
 use Rattle.layout.specs.Layout.{ruleNumbers, nodesLimit, rulesLimit, treeWords}
-use Rattle.tree.specs.Shape.{Shape, Place, Used, Live, Valid, to, owner, floor, Up, Tree}
-use Rattle.tree.specs.Change.{Grown, Links, Sorted}
-use Rattle.tree.specs.Tally.{tally, marked}
-use Rattle.tree.specs.Words.{cellOf, parentOf, nextOf, shape, place}
+use Rattle.shape.specs.Shape.{Shape, Hook, Used, Live, Valid, to, owner, floor, Up, Tree}
+use Rattle.shape.specs.Change.{Grown, Links, Sorted}
+use Rattle.shape.specs.Tally.{tally, marked}
+use Rattle.links.specs.Words.{cellOf, parentOf, nextOf, shape, hook}
 
 -- the length of the memory, and a tree in it
 pub record Sound (ws : List ℕ) : Type 0 where
@@ -20,18 +20,12 @@ pub record Sound (ws : List ℕ) : Type 0 where
 abbrev pub Marked : List ℕ → ℕ → Type 0
 Marked map n = marked map n ≡ true
 
--- the cell c has its place among the children of p, behind b or further on
-pub record Before (m : Shape) (p b c : ℕ) : Type 0 where
-  pub valid : Valid m (place p b)
-  pub under : owner m (place p b) ≡ p
-  pub above : floor m (place p b) ≤ c
-
 -- where a child of p with the cell c belongs: after the sibling b, or first where b is 0; such a child would come next
 pub record Found (m : Shape) (p b c : ℕ) : Type 0 where
-  pub valid : Valid m (place p b)
-  pub under : owner m (place p b) ≡ p
-  pub above : floor m (place p b) ≤ c
-  pub below : {k : ℕ} → to m (place p b) ≡ suc k → c ≤ m .cell k
+  pub valid : Valid m (hook p b)
+  pub under : owner m (hook p b) ≡ p
+  pub above : floor m (hook p b) ≤ c
+  pub below : {k : ℕ} → to m (hook p b) ≡ suc k → c ≤ m .cell k
 
 -- no child of l has the cell c
 abbrev pub Absent : Shape → ℕ → ℕ → Type 0
@@ -61,26 +55,9 @@ pub record Hangable (ws : List ℕ) (p r number : ℕ) : Type 0 where
   pub low : number < ruleNumbers
   pub absent : Absent (shape ws) p number
 
--- The rule r hangs below p, at its number's place
+-- The rule r hangs below p, at its number's hook
 pub record Hung (m m′ : Shape) (p r number : ℕ) : Type 0 where
-  pub at : Place
+  pub at : Hook
   pub below : owner m at ≡ p
   pub sorted : Sorted m at number
   pub links : Links m m′ at number (nodesLimit + r)
-
--- The link f leads to a used sibling further on than the node with the word w, with a cell of `most` at the most
-pub record Further (m : Shape) (w most f : ℕ) : Type 0 where
-  pub node : ℕ
-  pub leads : f ≡ suc node
-  pub used : Used m node
-  pub beside : m .parent node ≡ parentOf w
-  pub further : cellOf w < m .cell node
-  pub near : m .cell node ≤ most
-
--- The link x itself, or a sibling of its node further on
-abbrev pub Leap : Shape → (x w most r : ℕ) → Type 0
-Leap m x w most r = (r ≡ x) ⊎ Further m w most r
-
--- The next sibling, or one further on
-abbrev pub Onward : Shape → ℕ → ℕ → ℕ → Type 0
-Onward m w most r = (r ≡ nextOf w) ⊎ Further m w most r

@@ -8,74 +8,20 @@
 //
 // The two maps are one: behind the nodes of forms stand the rules, as nodes too. The rule at place r is the node 4,096 + r, and its
 // number is its cell. Parent, first child and next sibling are links; 0 is the root or none. Siblings ascend by cell.
-pub mod signs;
-
 ghost use mathlib.Core.Path.{_≡_};
 ghost use mathlib.Core.List.{reverse};
 ghost use mathlib.Core.Bool.{true, false};
 ghost use Prim.Native.Nat.{suc, _+_, _<_, _≤_};
 ghost use lib.ListN.{length};
 ghost use Rattle.layout.specs.Layout.{nodesLimit, lastLink, treeWords, signWords};
-ghost use Rattle.tree.specs.Shape.{Used, to};
-ghost use Rattle.tree.specs.Tally.{tally};
-ghost use Rattle.tree.specs.Change.{Links, Grown, Trimmed};
-ghost use Rattle.tree.specs.Effects.{Puts};
-ghost use Rattle.tree.specs.Words.{cellOf, parentOf, firstOf, nextOf, Node, shape, place};
-ghost use Rattle.tree.specs.Promises.{Sound, Before, Found, Descended, Planted, Hangable, Hung};
-ghost use Rattle.tree.specs.Needs.{ChildWith, Ready, Room, Next, Growing, Leaf, Unlinked};
-
-// The mark of a blank, as wide as the cell of a word.
-pub const MARK: u64 = term::MARK as u64;
-
-// ---- the word of a link
-
-pub fn cell_of(w: u64) -> u64
-    ensures { λ r. ⌜ r ≡ cellOf w ⌝ }
-{
-    w / 281474976710656
-}
-
-pub fn parent_of(w: u64) -> u64
-    ensures { λ r. ⌜ r ≡ parentOf w ⌝ }
-{
-    w / 4294967296 % 65536
-}
-
-pub fn first_of(w: u64) -> u64
-    ensures { λ r. ⌜ r ≡ firstOf w ⌝ }
-{
-    w / 65536 % 65536
-}
-
-pub fn next_of(w: u64) -> u64
-    ensures { λ r. ⌜ r ≡ nextOf w ⌝ }
-{
-    w % 65536
-}
-
-fn pack(c: u64, p: u64, f: u64, x: u64) -> u64
-    requires { ⌜ c < 65536 ⌝ }
-    requires { ⌜ p < 65536 ⌝ }
-    requires { ⌜ f < 65536 ⌝ }
-    requires { ⌜ x < 65536 ⌝ }
-    ensures { λ r. ⌜ Node r c p f x ⌝ }
-{
-    c * 281474976710656 + p * 4294967296 + f * 65536 + x
-}
-
-pub fn with_first(w: u64, x: u64) -> u64
-    requires { ⌜ x < 65536 ⌝ }
-    ensures { λ r. ⌜ Node r (cellOf w) (parentOf w) x (nextOf w) ⌝ }
-{
-    w / 4294967296 * 4294967296 + x * 65536 + w % 65536
-}
-
-fn with_next(w: u64, x: u64) -> u64
-    requires { ⌜ x < 65536 ⌝ }
-    ensures { λ r. ⌜ Node r (cellOf w) (parentOf w) (firstOf w) x ⌝ }
-{
-    w / 65536 * 65536 + x
-}
+ghost use Rattle.shape.specs.Shape.{Used, to};
+ghost use Rattle.shape.specs.Tally.{tally};
+ghost use Rattle.shape.specs.Change.{Links, Grown, Trimmed};
+ghost use Rattle.shape.specs.Effects.{Leads};
+ghost use Rattle.links.specs.Words.{cellOf, parentOf, firstOf, nextOf, Node, shape, hook};
+ghost use Rattle.tree.specs.Promises.{Sound, Found, Descended, Planted, Hangable, Hung};
+ghost use Rattle.tree.specs.Needs.{ChildWith, Room, Next, Growing, Childless, Unlinked};
+ghost use Rattle.links.specs.Siblings.{Before, Ready};
 
 fn wide(x: u16) -> u64
     ensures { λ r. ⌜ r ≡ x ⌝ }
@@ -83,18 +29,18 @@ fn wide(x: u16) -> u64
     x as u64
 }
 
-// ---- places: among the children of p the one after the sibling b, or the first where b is 0
+// ---- hooks: among the children of p the one after the sibling b, or the first where b is 0
 
 fn get_link(m: &[u64], p: usize, b: usize) -> usize
     requires { ⌜ length (now m) ≡ treeWords ⌝ }
     requires { ⌜ p ≤ lastLink ⌝ }
     requires { ⌜ b ≤ lastLink ⌝ }
-    ensures { λ r. ⌜ to (shape (now (m .entry))) (place p b) ≡ r ⌝ }
+    ensures { λ r. ⌜ to (shape (now (m .entry))) (hook p b) ≡ r ⌝ }
 {
     if b == 0 {
-        first_of(m[layout::LINKS_AT + p]) as usize
+        links::first_of(m[layout::LINKS_AT + p]) as usize
     } else {
-        next_of(m[layout::LINKS_AT + b]) as usize
+        links::next_of(m[layout::LINKS_AT + b]) as usize
     }
 }
 
@@ -103,16 +49,16 @@ fn put_link(m: &mut [u64], p: usize, b: usize, x: u64)
     requires { ⌜ p ≤ lastLink ⌝ }
     requires { ⌜ b ≤ lastLink ⌝ }
     requires { ⌜ x < 65536 ⌝ }
-    ensures { λ r. ⌜ Puts (shape (now (m .entry))) (shape (now (m .exit))) (place p b) x ⌝ }
+    ensures { λ r. ⌜ Leads (shape (now (m .entry))) (shape (now (m .exit))) (hook p b) x ⌝ }
 {
     if b == 0 {
-        m[layout::LINKS_AT + p] = with_first(m[layout::LINKS_AT + p], x);
+        m[layout::LINKS_AT + p] = links::with_first(m[layout::LINKS_AT + p], x);
     } else {
-        m[layout::LINKS_AT + b] = with_next(m[layout::LINKS_AT + b], x);
+        m[layout::LINKS_AT + b] = links::with_next(m[layout::LINKS_AT + b], x);
     }
 }
 
-// The child of p behind which the cell c has its place, or 0. It is looked for from the child `from` on, whose cell is below c, or from
+// The child of p behind which the cell c has its hook, or 0. It is looked for from the child `from` on, whose cell is below c, or from
 // the first where that is 0.
 fn find(m: &[u64], p: usize, from: usize, c: u64) -> usize
     requires { ⌜ Ready (now m) p ⌝ }
@@ -123,11 +69,11 @@ fn find(m: &[u64], p: usize, from: usize, c: u64) -> usize
     let mut x = get_link(m, p, from);
     while x != 0 {
         let w = m[layout::LINKS_AT + x];
-        if cell_of(w) >= c {
+        if links::cell_of(w) >= c {
             return b;
         }
         b = x;
-        x = next_of(w) as usize;
+        x = links::next_of(w) as usize;
     }
     b
 }
@@ -135,7 +81,7 @@ fn find(m: &[u64], p: usize, from: usize, c: u64) -> usize
 // ---- adding
 
 // How far the nodes of a form exist: the link of the last, and how many there are; and the child of the last behind which the
-// next cell has its place, or 0, so that no one looks for it again.
+// next cell has its hook, or 0, so that no one looks for it again.
 pub struct Down {
     pub link: usize,
     pub depth: usize,
@@ -152,7 +98,7 @@ fn child_with(m: &[u64], p: usize, b: usize, c: u64) -> usize
     if x == 0 {
         return 0;
     }
-    if cell_of(m[layout::LINKS_AT + x]) == c {
+    if links::cell_of(m[layout::LINKS_AT + x]) == c {
         return x;
     }
     0
@@ -168,7 +114,7 @@ pub fn descend(m: &[u64], signs: &[u64], form: &[u16]) -> Down
     let mut i: usize = 0;
     while i < form.len() {
         let c = wide(form[i]);
-        let b = find(m, l, signs::before(m, signs, l, c), c);
+        let b = find(m, l, links::signs::before(m, signs, l, c), c);
         let x = child_with(m, l, b, c);
         if x == 0 {
             return Down {
@@ -187,19 +133,19 @@ pub fn descend(m: &[u64], signs: &[u64], form: &[u16]) -> Down
     }
 }
 
-// The free node n comes in with the cell c at a place of p.
+// The free node n comes in with the cell c at a hook of p.
 fn link(m: &mut [u64], p: usize, b: usize, n: usize, c: u64)
     requires { ⌜ Room (now m) p b n c ⌝ }
-    ensures { λ r. ⌜ Links (shape (now (m .entry))) (shape (now (m .exit))) (place p b) c n ⌝ }
+    ensures { λ r. ⌜ Links (shape (now (m .entry))) (shape (now (m .exit))) (hook p b) c n ⌝ }
 {
     let x = get_link(m, p, b);
-    m[layout::NODES_AT + n] = pack(c, p as u64, 0, x as u64);
+    m[layout::NODES_AT + n] = links::pack(c, p as u64, 0, x as u64);
     put_link(m, p, b, n as u64 + 1);
     bits::mark(&mut m[0..layout::MAP_WORDS], n);
 }
 
 // A chain of new nodes with the cells of a form, the first under l, behind its child b: the link of the last. A new node has no
-// child, so the place of the next one is known; and the words of the map before `full` have no free node.
+// child, so the hook of the next one is known; and the words of the map before `full` have no free node.
 fn grow(m: &mut [u64], l: usize, b: usize, form: &[u16]) -> usize
     requires { ⌜ Growing (now m) l b (now form) 0 ⌝ }
     ensures { λ r. ⌜ Grown (shape (now (m .entry))) l (reverse (now (form .entry))) (shape (now (m .exit))) r ⌝ }
@@ -269,13 +215,13 @@ pub fn hang(m: &mut [u64], p: usize, r: usize, number: u64)
 
 // The node n, which has no child, goes.
 fn unlink(m: &mut [u64], n: usize)
-    requires { ⌜ Leaf (now m) n ⌝ }
+    requires { ⌜ Childless (now m) n ⌝ }
     ensures { λ r. ⌜ Unlinked (shape (now (m .entry))) (shape (now (m .exit))) n ⌝ }
 {
     let w = m[layout::NODES_AT + n];
-    let p = parent_of(w) as usize;
-    let b = find(m, p, 0, cell_of(w));
-    put_link(m, p, b, next_of(w));
+    let p = links::parent_of(w) as usize;
+    let b = find(m, p, 0, links::cell_of(w));
+    put_link(m, p, b, links::next_of(w));
     bits::clear(&mut m[0..layout::MAP_WORDS], n);
 }
 
@@ -288,10 +234,10 @@ pub fn trim(m: &mut [u64], last: usize)
     let mut l = last + 1;
     while l != 0 {
         let w = m[layout::LINKS_AT + l];
-        if first_of(w) != 0 {
+        if links::first_of(w) != 0 {
             return;
         }
         unlink(m, l - 1);
-        l = parent_of(w) as usize;
+        l = links::parent_of(w) as usize;
     }
 }

@@ -6,7 +6,7 @@ use native.Mathlib.Omega.{arith}
 use borrow.Author.Needs.{needs}
 use lib.ListN.{length, take, drop, length-map, length-take, length-drop}
 use Rattle.layout.specs.Layout.{rulesLimit, treeWords, signsAt, signWords, bookWords}
-use Rattle.tree.specs.Words.{shape}
+use Rattle.links.specs.Words.{shape}
 use Rattle.tree.specs.Promises.{Hangable, Hung}
 use Rattle.book.specs.Rules.{Rule, plain, nothing}
 use Rattle.book.specs.declared.Added.the-variants.{Taken}

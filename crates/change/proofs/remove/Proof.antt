@@ -2,7 +2,7 @@
 use borrow.Author.Needs.{needs}
 use mathlib.Core.Path.{_∙_}
 use native.Mathlib.Omega.{arith}
-use Rattle.tree.specs.Rows.{passes-tree}
+use Rattle.shape.specs.Rows.{passes-tree}
 use Rattle.book.specs.Looking.{tree-long}
 use Rattle.book.specs.Placing.{Placed, not-placed, placed}
 use Rattle.change.proofs.Removing.{nothing-removed, rule-gone}

@@ -6,13 +6,13 @@ use Rattle.claggyfoot.proofs.cf_name_of.Tie as tie
 
 returns : tie.Need-returns
 returns c =
-    let p = c .before .before .before .before .before .place-of in
+    let p = c .before .before .before .before .before .part-of in
     record {
-      place = p .result;
+      part = p .result;
       stands = p .ensures;
-      refusal-is = c .before .before .before .before .place-refusal .ensures;
-      start-is = c .before .before .wide .ensures ∙ c .before .before .before .place-start .ensures;
-      size-is = c .wide2 .ensures ∙ c .before .place-size .ensures;
+      refusal-is = c .before .before .before .before .part-refusal .ensures;
+      start-is = c .before .before .wide .ensures ∙ c .before .before .before .part-start .ensures;
+      size-is = c .wide2 .ensures ∙ c .before .part-size .ensures;
     }
 
 pub cf-name-of-spec : {M : Type 1} → statement M

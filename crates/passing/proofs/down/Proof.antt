@@ -12,8 +12,8 @@ use Rattle.passing.proofs.enter.Reads as enter-reads
 use Rattle.passing.proofs.lost.Reads as lost-reads
 use Rattle.passing.proofs.number.Reads as number-reads
 use Rattle.passing.proofs.push.Reads as push-reads
-use Rattle.tree.proofs.cell_of.Reads as cell-of-reads
-use Rattle.tree.proofs.first_of.Reads as first-of-reads
+use Rattle.links.proofs.cell_of.Reads as cell-of-reads
+use Rattle.links.proofs.first_of.Reads as first-of-reads
 
 abbrev Inv-loop : tie.InvT-loop
 Inv-loop m left₀ way₀ wants₀ stack₀ x₀ p₀ low₀ depth₀ top₀ k₀ word₀ left way wants stack x p low depth top k word =

@@ -10,7 +10,7 @@ use Rattle.passing.proofs.enter_rule.Reads as reads
 use Rattle.passing.proofs.enter_rule.Lts as lts
 use Rattle.passing.proofs.come.Reads as come-reads
 use Rattle.passing.proofs.wrong.Reads as wrong-reads
-use Rattle.tree.proofs.first_of.Reads as first-of-reads
+use Rattle.links.proofs.first_of.Reads as first-of-reads
 
 wrong-requires : tie.Need-wrong-requires
 wrong-requires c κs = search needs

@@ -1,12 +1,12 @@
--- The first place, then down, along and back, until nothing is before the walk.
+-- The first hook, then down, along and back, until nothing is before the walk.
 use mathlib.Core.Path.{refl, _∙_}
 use Prim.Native.Nat.{_-_}
 use native.Mathlib.Omega.{arith}
 use borrow.Author.Needs.{needs}
 use borrow.Author.Tests.{not-true, not-false}
 use Rattle.layout.specs.Layout.{lastLink}
-use Rattle.tree.specs.Tally.{tally, marked}
-use Rattle.passing.proofs.Ending.{Checking, wrong-length, sizes-first, answers-no, no-child, first-place, walk-over, walk-back, sizes-after, one-more}
+use Rattle.shape.specs.Tally.{tally, marked}
+use Rattle.passing.proofs.Ending.{Checking, wrong-length, sizes-first, answers-no, no-child, first-hook, walk-over, walk-back, sizes-after, one-more}
 use Rattle.passing.proofs.Downing.{tops-of}
 use Rattle.passing.proofs.passes.Statement.{statement}
 use Rattle.passing.proofs.passes.Tie as tie
@@ -17,7 +17,7 @@ use Rattle.passing.proofs.down.Reads as down-reads
 use Rattle.passing.proofs.is_clear.Reads as is-clear-reads
 use Rattle.passing.proofs.maps.Reads as maps-reads
 use Rattle.passing.proofs.rules.Reads as rules-reads
-use Rattle.tree.proofs.first_of.Reads as first-of-reads
+use Rattle.links.proofs.first_of.Reads as first-of-reads
 
 abbrev Inv-loop : tie.InvT-loop
 Inv-loop m left₀ first way₀ wants₀ stack₀ at₀ left way wants stack at = Checking m left way wants stack (at .x) (at .p) (at .low) (at .depth) (at .top)
@@ -56,7 +56,7 @@ loop-holds c =
     let n = f .before .before .maps in
     let z = f .before .before .before .if1 .left in record {
       sizes = sizes-first (s .args .m .now) (n .result) z (n .ensures);
-      at = first-place (s .args .m .now) (n .result) z (n .ensures) (f .first-of .result) (f .first-of .ensures) (c .if2 .left);
+      at = first-hook (s .args .m .now) (n .result) z (n .ensures) (f .first-of .result) (f .first-of .ensures) (c .if2 .left);
     }
 
 slice-aggregate-down : tie.Need-slice-aggregate-down Inv-loop μ-loop

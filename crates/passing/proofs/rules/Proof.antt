@@ -4,7 +4,7 @@ use Prim.Native.Nat.{_-_}
 use native.Mathlib.Omega.{arith}
 use borrow.Author.Tests.{not-true, not-false}
 use Rattle.layout.specs.Layout.{lastLink}
-use Rattle.tree.specs.Tally.{tally, marked}
+use Rattle.shape.specs.Tally.{tally, marked}
 use Rattle.passing.proofs.Along.{Ruling, rules-start, no-rule, other-rule, rule-asked, rule-word, rule-low, one-less, rules-on, rules-over}
 use Rattle.passing.proofs.rules.Statement.{statement}
 use Rattle.passing.proofs.rules.Tie as tie
@@ -12,8 +12,8 @@ use Rattle.passing.proofs.rules.Reads as reads
 use Rattle.passing.proofs.rules.Lts as lts
 use Rattle.passing.proofs.enter_rule.Reads as enter-rule-reads
 use Rattle.recorded.proofs.is_rule.Reads as is-rule-reads
-use Rattle.tree.proofs.cell_of.Reads as cell-of-reads
-use Rattle.tree.proofs.next_of.Reads as next-of-reads
+use Rattle.links.proofs.cell_of.Reads as cell-of-reads
+use Rattle.links.proofs.next_of.Reads as next-of-reads
 
 abbrev Inv-loop : tie.InvT-loop
 Inv-loop m left₀ way wants stack p depth top x₀ low₀ left x low = Ruling m left₀ left way wants stack x p low depth top

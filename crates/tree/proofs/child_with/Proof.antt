@@ -1,11 +1,11 @@
--- The cell has its place behind b, so the child that comes there has it, or no child has
+-- The cell has its hook behind b, so the child that comes there has it, or no child has
 use Prim.Native.Nat.{_≤_}
 use Rattle.layout.specs.Layout.{lastLink}
 use borrow.Author.Needs.{needs}
-use Rattle.tree.proofs.Stores.{at-fits, at-bytes, at-in}
 use Rattle.tree.proofs.Walking.{child-low, next-low, none-comes, other-comes, it-comes}
 use Rattle.tree.proofs.child_with.Statement.{statement}
 use Rattle.tree.proofs.child_with.Tie as tie
+use Rattle.links.specs.Limits.{at-fits, at-bytes, at-in}
 
 get-link-requires : tie.Need-get-link-requires
 get-link-requires c κs =

@@ -1,7 +1,7 @@
 -- Each turn finds the child with the next cell, or that there is none
 use Prim.Native.Nat.{_-_}
 use lib.ListN.{length}
-use Rattle.tree.specs.Words.{shape}
+use Rattle.links.specs.Words.{shape}
 use Rattle.tree.proofs.Walking.{Descending, descend-start, descend-ready, descend-stop, descend-on, descend-all, descend-next, next-none}
 use borrow.Author.Needs.{needs}
 use Rattle.tree.proofs.descend.Statement.{statement}

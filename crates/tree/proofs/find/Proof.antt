@@ -1,25 +1,24 @@
 -- The walk stands behind b, whose cell is below c; it stops before the first cell that is not
 use Prim.Native.Nat.{_-_}
 use native.Mathlib.Omega.{arith}
-use Rattle.tree.specs.Shape.{floor}
-use Rattle.tree.specs.Words.{shape, place}
-use Rattle.tree.specs.Limits.{live-low, place-low}
-use Rattle.tree.proofs.Stores.{at-fits, at-bytes, at-in}
-use Rattle.tree.proofs.Walking.{Walk, walk-start, walk-on, walk-less, walk-found, walk-end}
+use Rattle.shape.specs.Shape.{floor}
+use Rattle.links.specs.Words.{shape, hook}
+use Rattle.links.specs.Limits.{live-low, hook-low, at-fits, at-bytes, at-in}
+use Rattle.tree.proofs.Walking.{Along, walk-start, walk-on, walk-less, walk-found, walk-end}
 use borrow.Author.Needs.{needs}
 use Rattle.tree.proofs.find.Statement.{statement}
 use Rattle.tree.proofs.find.Tie as tie
 
 abbrev Inv-loop : tie.InvT-loop
-Inv-loop m p from c b₀ x₀ b x = Walk m p b c x
+Inv-loop m p from c b₀ x₀ b x = Along m p b c x
 
 abbrev μ-loop : tie.MeasureT-loop
-μ-loop m p from c b₀ x₀ b x = c - floor (shape m) (place p b)
+μ-loop m p from c b₀ x₀ b x = c - floor (shape m) (hook p b)
 
 get-link-requires : tie.Need-get-link-requires Inv-loop μ-loop
 get-link-requires c κs =
     let s = c .before in
-    (s .pre .0 .size, (live-low (s .args .m .now) (s .pre .0 .size) (s .args .p) (s .pre .0 .live), place-low (s .args .m .now) (s .pre .0 .size) (s .args .p) (s .args .from) (s .pre .1 .valid)))
+    (s .pre .0 .size, (live-low (s .args .m .now) (s .pre .0 .size) (s .args .p) (s .pre .0 .live), hook-low (s .args .m .now) (s .pre .0 .size) (s .args .p) (s .args .from) (s .pre .1 .valid)))
 
 loop-holds : tie.Need-loop-holds Inv-loop μ-loop
 loop-holds c =

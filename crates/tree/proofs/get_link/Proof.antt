@@ -1,4 +1,4 @@
--- The place is the owner's first child where b is 0, and else b's next sibling
+-- The hook is the owner's first child where b is 0, and else b's next sibling
 use Rattle.tree.proofs.Stores.{gets-first, gets-next}
 use borrow.Author.Needs.{needs}
 use Rattle.tree.proofs.get_link.Statement.{statement}

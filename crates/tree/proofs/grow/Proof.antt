@@ -1,4 +1,4 @@
--- Each turn links the lowest free node in at the sorted place of the next cell, which is known: behind b, and then below the new node
+-- Each turn links the lowest free node in at the sorted hook of the next cell, which is known: behind b, and then below the new node
 use mathlib.Core.Path.{_≡_, sym, _∙_}
 use Prim.Native.Nat.{_-_}
 use native.Mathlib.Omega.{arith}

@@ -1,11 +1,11 @@
--- The place that `find` finds for the number is sorted, since no rule there has it; so the rule is linked in
+-- The hook that `find` finds for the number is sorted, since no rule there has it; so the rule is linked in
 use native.Mathlib.Omega.{arith}
 use borrow.Author.Needs.{needs}
-use Rattle.tree.specs.Needs.{Ready}
-use Rattle.tree.specs.Limits.{live-low, place-low}
-use Rattle.tree.proofs.Walking.{before-all, found-sorted}
+use Rattle.links.specs.Limits.{live-low, hook-low}
+use Rattle.tree.proofs.Walking.{found-sorted}
 use Rattle.tree.proofs.hang.Statement.{statement}
 use Rattle.tree.proofs.hang.Tie as tie
+use Rattle.links.specs.Siblings.{Ready, before-all}
 
 find-requires : tie.Need-find-requires
 find-requires c κs =
@@ -20,7 +20,7 @@ link-requires c κs =
     record {
       size = s .pre .sound .size;
       owner = live-low (s .args .m .now) (s .pre .sound .size) (s .args .p) (s .pre .live);
-      sibling = place-low (s .args .m .now) (s .pre .sound .size) (s .args .p) (c .before .find .result) (f .valid);
+      sibling = hook-low (s .args .m .now) (s .pre .sound .size) (s .args .p) (c .before .find .result) (f .valid);
       node = (let l = s .pre .place in omega arith);
       cell = (let l = s .pre .low in omega arith);
       free = s .pre .free;

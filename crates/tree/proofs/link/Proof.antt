@@ -6,8 +6,8 @@ use native.Mathlib.Omega.{arith}
 use lib.ListN.{length, set, take, length-set}
 use lib.Seq.{length-front}
 use Rattle.layout.specs.Layout.{mapWords, nodesAt}
-use Rattle.tree.specs.Effects.{Puts, Writes, linked}
-use Rattle.tree.specs.Words.{shape, place}
+use Rattle.shape.specs.Effects.{Leads, Writes, linked}
+use Rattle.links.specs.Words.{shape, hook}
 use Rattle.tree.proofs.Stores.{link-fits, writes, flips}
 use borrow.Author.Needs.{needs}
 use Rattle.tree.proofs.link.Statement.{statement}
@@ -57,7 +57,7 @@ returns c =
     let f : length (mark .last .0) ≡ length (take mapWords (put-link .last .0)) = search needs in
     let w : Writes (shape ws) (shape ws₁) (s .args .n) (s .args .c) (s .args .p) (get-link .result) = writes ws (s .pre .size) (s .args .n) (s .pre .node)
     (pack .result) (s .args .c) (s .args .p) (get-link .result) (pack .ensures) in
-    let at : Puts (shape ws₁) (shape (put-link .last .0)) (place (s .args .p) (s .args .b)) (suc (s .args .n)) = rw add-one at (put-link .ensures) in
+    let at : Leads (shape ws₁) (shape (put-link .last .0)) (hook (s .args .p) (s .args .b)) (suc (s .args .n)) = rw add-one at (put-link .ensures) in
     linked (s .pre .free) (s .pre .valid) (rw (s .pre .under, get-link .ensures) w) at
     (flips (put-link .last .0) (mark .last .0) (s .args .n) 1 (e ∙ length-set ws (nodesAt + s .args .n) (pack .result) ∙ s .pre .size) (s .pre .node) f (mark .ensures))
 

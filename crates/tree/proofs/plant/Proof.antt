@@ -2,7 +2,7 @@
 use mathlib.Core.Path.{refl}
 use native.Mathlib.Omega.{arith}
 use borrow.Author.Needs.{needs}
-use Rattle.tree.specs.Basics.{told-no, told-yes}
+use Rattle.shape.specs.Basics.{told-no, told-yes}
 use Rattle.tree.proofs.Growing.{plant-growing, plant-full, plant-fits}
 use Rattle.tree.proofs.plant.Statement.{statement}
 use Rattle.tree.proofs.plant.Tie as tie

@@ -1,4 +1,4 @@
--- The word stored differs from the old one in the place's link alone
+-- The word stored differs from the old one in the hook's link alone
 use Rattle.tree.proofs.Stores.{puts-first, puts-after}
 use borrow.Author.Needs.{needs}
 use Rattle.tree.proofs.put_link.Statement.{statement}

@@ -5,10 +5,10 @@ use native.Mathlib.Numerals.{add-one}
 use native.Mathlib.Omega.{arith}
 use lib.ListN.{length}
 use Rattle.layout.specs.Layout.{lastLink}
-use Rattle.tree.specs.Tally.{tally}
-use Rattle.tree.specs.Words.{shape}
-use Rattle.tree.specs.Limits.{used-low}
-use Rattle.tree.proofs.Stores.{at-fits, at-bytes, at-in, next-fits}
+use Rattle.shape.specs.Tally.{tally}
+use Rattle.links.specs.Words.{shape}
+use Rattle.links.specs.Limits.{used-low, at-fits, at-bytes, at-in}
+use Rattle.tree.proofs.Stores.{next-fits}
 use Rattle.tree.proofs.Trimming.{Trimming, trim-start, trim-end, trim-stays, trim-leaf, trim-on, trim-less}
 use borrow.Author.Needs.{needs}
 use Rattle.tree.proofs.trim.Statement.{statement}

@@ -1,12 +1,12 @@
--- The place that leads to the node is where its cell belongs; it then leads to the next sibling
+-- The hook that leads to the node is where its cell belongs; it then leads to the next sibling
 use mathlib.Core.Path.{_≡_}
 use lib.ListN.{length, take}
 use Rattle.layout.specs.Layout.{mapWords}
 use Rattle.tree.proofs.Trimming.{leaf-ready, leaf-low, leaf-unlinked}
-use Rattle.tree.proofs.Walking.{before-all}
 use borrow.Author.Needs.{needs}
 use Rattle.tree.proofs.unlink.Statement.{statement}
 use Rattle.tree.proofs.unlink.Tie as tie
+use Rattle.links.specs.Siblings.{before-all}
 
 find-requires : tie.Need-find-requires
 find-requires c κs =

@@ -7,14 +7,14 @@ use Prim.Native.Nat.{ℕ, _+_, _^_, _≤_, _<_}
 use native.Mathlib.Omega.{arith}
 use lib.ListN.{length, getD}
 use Rattle.layout.specs.Layout.{linksAt, lastLink, bookWords}
-use Rattle.tree.specs.Words.{cellOf}
-use Rattle.tree.specs.Promises.{Further}
+use Rattle.links.specs.Words.{cellOf}
 use Rattle.book.specs.Memory.{view}
 use Rattle.questions.specs.Promises.{start, Begins, Threaded}
 use Rattle.questions.proofs.Threads.{in-tree}
 use Rattle.questions.proofs.Leaps.{leaps, up-to-it}
 use Rattle.questions.proofs.seeking.leap.Statement.{statement}
 use Rattle.questions.proofs.seeking.leap.Tie as tie
+use Rattle.links.specs.Siblings.{Further}
 
 here : (ws : List ℕ) (cell link : ℕ) → Threaded ws link → Begins ws cell link link
 here ws cell link t = record { threaded = t; by = start }

@@ -4,7 +4,7 @@ use mathlib.Core.Path.{_≡_}
 use mathlib.Core.Logic.{⊎-elim, inl}
 use Prim.Native.Nat.{ℕ, _≤_}
 use native.Mathlib.Omega.{arith}
-use Rattle.tree.specs.Words.{cellOf}
+use Rattle.links.specs.Words.{cellOf}
 use Rattle.questions.specs.Promises.{Reach}
 use Rattle.questions.proofs.Leaps.{up-to-it}
 use Rattle.questions.proofs.seeking.onward.Statement.{statement}

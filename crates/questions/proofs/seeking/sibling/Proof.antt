@@ -7,16 +7,16 @@ use Prim.Native.Nat.{ℕ, _+_, _^_, _≤_, _<_}
 use native.Mathlib.Omega.{arith}
 use lib.ListN.{length, getD}
 use Rattle.layout.specs.Layout.{linksAt, lastLink, bookWords}
-use Rattle.tree.specs.Words.{cellOf, nextOf}
-use Rattle.tree.specs.Trie.{trie}
-use Rattle.tree.specs.Search.{size}
-use Rattle.tree.specs.Promises.{Further}
+use Rattle.links.specs.Words.{cellOf, nextOf}
+use Rattle.shape.specs.Trie.{trie}
+use Rattle.shape.specs.Search.{size}
 use Rattle.book.specs.Memory.{view}
 use Rattle.questions.specs.Promises.{PassesBy, Reach, Sought, reached, beyond, Threaded}
 use Rattle.questions.proofs.Threads.{in-tree}
 use Rattle.questions.proofs.Leaps.{Leapt, leaps, steps}
 use Rattle.questions.proofs.seeking.sibling.Statement.{statement}
 use Rattle.questions.proofs.seeking.sibling.Tie as tie
+use Rattle.links.specs.Siblings.{Further}
 
 abbrev Inv-loop : tie.InvT-loop
 Inv-loop m cell last link x₀ x = Threaded m x × PassesBy m cell link x

@@ -1,0 +1,1 @@
+// The tree as functions: definitions and laws, no code.
