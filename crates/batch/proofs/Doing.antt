@@ -7,10 +7,9 @@ use native.Mathlib.Omega.{arith}
 use lib.Dec.{leb, ltb}
 use lib.ListN.{length, take, drop, replicate}
 use lib.Seq.{take-append-seam}
-use Rattle.deciding.specs.Deciding.{pick}
+use Rattle.deciding.specs.Deciding.{pick, true≢false}
 use Rattle.layout.specs.Layout.{rulesLimit, nodesLimit}
 use Rattle.bits.specs.Numbers.{has}
-use Rattle.term.specs.Counting.{true≢false}
 use Rattle.term.specs.Questions.{Mode}
 use Rattle.term.specs.Machine.{fillsQuestion, fillsRule}
 use Rattle.book.specs.declared.Added.{Added}

@@ -9,11 +9,10 @@ use native.Mathlib.Decide.{ℕ-discrete}
 use lib.Dec.{eqb, ltb}
 use lib.ListN.{length, take, replicate, length-take, length-replicate, getD-replicate}
 use lib.Seq.{getD-take}
-use Rattle.deciding.specs.Deciding.{pick, both, both-false}
+use Rattle.deciding.specs.Deciding.{pick, both, both-false, true≢false}
 use Rattle.layout.specs.Layout.{ruleNumbers, nodesLimit, rulesLimit, lastLink, treeWords, bookWords}
 use Rattle.bits.specs.Packed.{bits, sum}
 use Rattle.term.specs.Beginnings.{putIf, Begins}
-use Rattle.term.specs.Counting.{true≢false}
 use Rattle.term.specs.Whole.{whole-alone}
 use Rattle.term.specs.declared.reading.Reading.the-variants.{Whole}
 use Rattle.shape.specs.Shape.{Used, Up, Passes}

@@ -6,7 +6,8 @@ use Prim.Native.Nat.{ℕ, _≤_, _<_}
 use native.Mathlib.Omega.{arith}
 use borrow.Author.Tests.{ltb-true, ltb-false, ne-eqb, eq-eqb}
 use lib.Dec.{eqb, ltb}
-use Rattle.term.specs.Cells.{symb, Row, Blank, blank, star, Terms, blankOf, blankForm, numberOf, pickCell}
+use Rattle.deciding.specs.Deciding.{pick}
+use Rattle.term.specs.Cells.{symb, Row, Blank, blank, star, Terms, blankOf, blankForm, numberOf}
 use Rattle.term.specs.Beginnings.{nodes, sameCell, nodeCount}
 use Rattle.term.specs.Counting.{nodes-map, cons-eq}
 use Rattle.term.specs.Preorder.{same-rest}
@@ -22,8 +23,8 @@ pub side : (c : ℕ) → Side c
 side c = go (ltb c 32768) refl
   where
     go : (b : Bool) → ltb c 32768 ≡ b → Side c
-    go true e = let s : blankOf c ≡ symb c = ap (λ b. pickCell b (symb c) star) e in symbol (ltb-true c 32768 e) s (ap numberOf s)
-    go false e = let s : blankOf c ≡ star = ap (λ b. pickCell b (symb c) star) e in variable (ltb-false c 32768 e) s (ap numberOf s)
+    go true e = let s : blankOf c ≡ symb c = ap (λ b. pick b (symb c) star) e in symbol (ltb-true c 32768 e) s (ap numberOf s)
+    go false e = let s : blankOf c ≡ star = ap (λ b. pick b (symb c) star) e in variable (ltb-false c 32768 e) s (ap numberOf s)
 
 -- the blank of a blank is the blank
 blank-twice : (c : ℕ) → blankOf (blankNumber c) ≡ blankOf c

@@ -8,10 +8,10 @@ use native.Mathlib.Omega.{arith}
 use borrow.Author.Tests.{lt-ltb, ltb-true, eqb-true}
 use lib.Dec.{eqb, ltb}
 use lib.ListN.{length, length-append, length-map, length-take}
-use Rattle.deciding.specs.Deciding.{pick, both, of-both, to-both}
+use Rattle.deciding.specs.Deciding.{pick, both, of-both, to-both, true≢false}
 use Rattle.layout.specs.Layout.{ruleNumbers, nodesLimit, rulesLimit, lastLink}
 use Rattle.term.specs.Distinct.{as-many, distinct-map}
-use Rattle.term.specs.Counting.{true≢false, nodes-same}
+use Rattle.term.specs.Counting.{nodes-same}
 use Rattle.term.specs.Whole.{TermAt, whole-term}
 use Rattle.shape.specs.Basics.{eqb-exact}
 use Rattle.shape.specs.Shape.{Used, End}

@@ -15,7 +15,7 @@ use Rattle.book.specs.Rules.{nothing, rule, isHeld}
 use Rattle.book.specs.Memory.{View, view, taken, number, term, ruleAt, heldAt, Passing, rulesIn}
 use Rattle.book.specs.Holding.{term-at, term-size}
 use Rattle.book.specs.Promises.{Shows, shownSize, shownCells, placeOf}
-use Rattle.book.specs.Filling.{fields-long, zeros-are}
+use Rattle.book.specs.Filling.{Zeros, fields-long, zeros-are}
 use Rattle.book.specs.Looking.{nodes-low}
 
 -- The rule with the number k is at the place r.
@@ -52,6 +52,14 @@ module _ (ws : List ℕ) (k r : ℕ) (e : r ≡ placeOf (view ws) k) where
             rule-is = ap₂ (λ (x : Bool) (z : ℕ). pick x (rule (ruleAt (view ws) z)) nothing) q p;
           }
 
+-- Its record has at most 32 cells, and zeros behind the term.
+module _ (ws : List ℕ) (k r : ℕ) (p : Passing ws) (at : Placed ws k r) where
+  pub record-short : view ws .size r ≤ 32
+  record-short = term-at (view ws) (nodes-low ws (p .size)) (p .right) r (at .used) .short
+
+  pub record-clean : Zeros (view ws .cells r) (view ws .size r)
+  record-clean = p .right .records r (at .used) .clean
+
 -- ---- showing
 
 pub shows-nothing : (ws : List ℕ) (k : ℕ) → rulesIn ws k ≡ nothing → Shows ws k false 0 (replicate 32 0)
@@ -74,7 +82,7 @@ shows-rule ws k r size cells p at es ec = record {
     wide = fields-long (take termWords (drop (termsAt + recordWords * r) ws)) ∙ omega (arith, length-take termWords (drop (termsAt + recordWords * r) ws), length-drop (termsAt + recordWords * r) ws, p .size, at .low)
 
     short : view ws .size r ≤ 32
-    short = term-at (view ws) (nodes-low ws (p .size)) (p .right) r (at .used) .short
+    short = record-short ws k r p at
 
     whole : view ws .cells r ≡ term (view ws) r ++ replicate (32 - length (term (view ws) r)) 0
     whole = ext-getD 0 (view ws .cells r) (term (view ws) r ++ replicate (32 - length (term (view ws) r)) 0)
@@ -85,5 +93,5 @@ shows-rule ws k r size cells p at es ec = record {
         same i (yes l) = sym (List·getD-append (term (view ws) r) (replicate (32 - length (term (view ws) r)) 0) 0 i (omega (arith, long)) ∙ getD-take (view ws .size r) (view ws .cells r) i 0 l)
         same i (no l) =
             let e : i ≡ length (term (view ws) r) + (i - length (term (view ws) r)) = omega (arith, long) in
-            p .right .records r (at .used) .clean i (omega arith)
+            record-clean ws k r p at i (omega arith)
             ∙ sym (ap (λ (z : ℕ). getD (term (view ws) r ++ replicate (32 - length (term (view ws) r)) 0) z 0) e ∙ getD-append-add (term (view ws) r) (replicate (32 - length (term (view ws) r)) 0) (i - length (term (view ws) r)) 0 ∙ zeros-are (32 - length (term (view ws) r)) (i - length (term (view ws) r)))

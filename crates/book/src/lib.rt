@@ -120,11 +120,11 @@ pub fn show(m: &[u64], number: u16) -> Shown
     }
     let at = layout::TERMS_AT + layout::RECORD_WORDS * r;
     let end = at + layout::TERM_WORDS;
-    let cells = record::load(&m[at..end]);
+    let size = m[at - 1] as usize;
     Shown {
         held: true,
-        size: m[at - 1] as usize,
-        cells,
+        size,
+        cells: record::load_term(&m[at..end], size),
     }
 }
 

@@ -8,21 +8,7 @@ ghost use Rattle.bits.specs.Packed.{parts, fields};
 ghost use Rattle.book.specs.Memory.{formOf};
 ghost use Rattle.book.specs.Filling.{Zeros};
 
-// The 32 cells of a record's words.
-pub fn load(words: &[u64]) -> [u16; 32]
-    requires { ⌜ length (now words) ≡ termWords ⌝ }
-    ensures { λ r. ⌜ r ≡ fields (now (words .entry)) ⌝ }
-{
-    let mut cells = [0u16; 32];
-    let mut i: usize = 0;
-    while i < 32 {
-        cells[i] = bits::field(words, i);
-        i += 1;
-    }
-    cells
-}
-
-// The same of words whose cells are zero from `size` on: the words behind them are not read.
+// The 32 cells of a record's words, which are zero from `size` on: the words behind a term are not read.
 pub fn load_term(words: &[u64], size: usize) -> [u16; 32]
     requires { ⌜ length (now words) ≡ termWords ⌝ }
     requires { ⌜ size ≤ 32 ⌝ }

@@ -10,12 +10,11 @@ use borrow.Author.Tests.{lt-ltb, le-ltb, le-leb, lt-leb, eq-eqb, ne-eqb}
 use lib.Dec.{eqb, ltb, leb}
 use lib.ListN.{length, getD, take, drop, length-take, length-drop, length-map, take-append-drop}
 use lib.Seq.{take-at, take-length}
-use Rattle.deciding.specs.Deciding.{pick}
+use Rattle.deciding.specs.Deciding.{pick, true≢false}
 use Rattle.layout.specs.Layout.{ruleNumbers, ruleMapWords, nodesLimit, rulesLimit, ruleMapAt, lastLink, treeWords, bookWords}
 use Rattle.bits.specs.Packed.{bits, First}
 use Rattle.bits.specs.Laws.{length-bits, bit-low}
 use Rattle.term.specs.Cells.{Terms, blankForm}
-use Rattle.term.specs.Counting.{true≢false}
 use Rattle.term.specs.Whole.{TermAt, whole-term}
 use Rattle.shape.specs.Basics.{up-live}
 use Rattle.shape.specs.Shape.{Shape, Used}

@@ -8,10 +8,9 @@ use native.Mathlib.Omega.{arith}
 use native.Mathlib.Decide.{ℕ-discrete}
 use borrow.Author.Tests.{eq-eqb, ne-eqb}
 use lib.ListN.{length, getD, take, drop}
-use Rattle.deciding.specs.Deciding.{pick}
+use Rattle.deciding.specs.Deciding.{pick, true≢false}
 use Rattle.layout.specs.Layout.{nodesLimit, treeWords, placesAt, placeWords, termWords, recordWords, recordsAt, termsAt, bookWords}
 use Rattle.bits.specs.Packed.{fields}
-use Rattle.term.specs.Counting.{true≢false}
 use Rattle.links.specs.Words.{shape}
 use Rattle.shape.specs.Shape.{Shape}
 use Rattle.book.specs.Rules.{nothing, withoutRule, removal}

@@ -10,9 +10,8 @@ use borrow.Author.Tests.{lt-ltb, eq-eqb, ne-eqb}
 use lib.Dec.{eqb, ltb}
 use lib.ListN.{length, getD, take, replicate}
 use lib.Seq.{take-at, getD-append-add, take-length}
-use Rattle.deciding.specs.Deciding.{pick, both, both-false}
+use Rattle.deciding.specs.Deciding.{pick, both, both-false, true≢false}
 use Rattle.layout.specs.Layout.{ruleNumbers, nodesLimit, rulesLimit, lastLink}
-use Rattle.term.specs.Counting.{true≢false}
 use Rattle.term.specs.Reading.{readTerm}
 use Rattle.term.specs.declared.reading.Reading.the-variants.{Whole}
 use Rattle.term.specs.Whole.{whole-alone}

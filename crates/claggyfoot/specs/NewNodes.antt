@@ -6,8 +6,8 @@ use mathlib.Core.Bool.{Bool, true, false}
 use Prim.Native.Nat.{ℕ, zero, suc, _+_, _-_, _≤_, _<_}
 use native.Mathlib.Omega.{arith}
 use native.Mathlib.Decide.{ℕ-discrete}
+use Rattle.deciding.specs.Deciding.{true≢false}
 use Rattle.layout.specs.Layout.{nodesLimit}
-use Rattle.term.specs.Counting.{true≢false}
 use Rattle.shape.specs.Tally.{bit, tally}
 use Rattle.shape.specs.Tallies.{bit-le, tally-all, tally-le}
 use Rattle.book.specs.Rules.{nodesOf}

@@ -5,6 +5,7 @@ use mathlib.Core.Bool.{Bool, true, false, not}
 use Prim.Native.Nat.{ℕ, _/_, _%_, _≤_, _<_}
 use lib.Dec.{eqb}
 use lib.ListN.{length}
+use Rattle.deciding.specs.Deciding.{pick}
 use Rattle.term.specs.Reading.{readTerm, refusalOf}
 use Rattle.term.specs.declared.reading.Reading.{Reading}
 use Rattle.term.specs.declared.reading.Reading.the-variants.{Whole, Refused}
@@ -12,21 +13,13 @@ use Rattle.commands.specs.Kinds.{Unknown, Kind, kindAt, aboutTerm}
 use Rattle.commands.specs.Reader.{Next, Cell, End}
 pub use Rattle.commands.specs.declared.reader.Command.{Command}
 
-abbrev pub pickCommand : Bool → Command → Command → Command
-pickCommand true a b = a
-pickCommand false a b = b
-
-abbrev pub pickBool : Bool → Bool → Bool → Bool
-pickBool true a b = a
-pickBool false a b = b
-
 -- A command of some row: so many of the cells behind its command cell are its term, and it stops the batch with that number; with 0 it goes on.
 abbrev pub commandWith : Kind → (number size stop : ℕ) → Command
 commandWith k number size stop = record { act = k .act; number = number; size = size; stop = stop }
 
 -- Refusal 2: the kind is unknown, or the number has to be 0 and is not.
 abbrev pub isWrong : Kind → ℕ → Bool
-isWrong k number = pickBool (k .known) (pickBool (k .zero) (not (eqb number 0)) false) true
+isWrong k number = pick (k .known) (pick (k .zero) (not (eqb number 0)) false) true
 
 -- With a term behind it, it has the term's length, or stops as the term is refused.
 abbrev pub withTerm : Kind → ℕ → Reading → Command
@@ -35,7 +28,7 @@ withTerm k number (Refused fault place) = commandWith k number 0 (refusalOf faul
 
 -- A command is read by its row alone: 2 comes first, and then the term, where one follows.
 unfoldable pub readBy : Kind → ℕ → List ℕ → Command
-readBy k number behind = pickCommand (isWrong k number) (commandWith k number 0 2) (pickCommand (k .term) (withTerm k number (readTerm behind)) (commandWith k number 0 0))
+readBy k number behind = pick (isWrong k number) (commandWith k number 0 2) (pick (k .term) (withTerm k number (readTerm behind)) (commandWith k number 0 0))
 
 abbrev pub commandOf : (kind number : ℕ) → List ℕ → Command
 commandOf kind number behind = readBy (kindAt kind) number behind

@@ -7,8 +7,7 @@ use native.Mathlib.Omega.{arith}
 use borrow.Author.Tests.{not-true, ltb-true}
 use lib.Dec.{ltb}
 use lib.ListN.{length}
-use Rattle.deciding.specs.Deciding.{both, of-both}
-use Rattle.term.specs.Counting.{true≢false}
+use Rattle.deciding.specs.Deciding.{both, of-both, true≢false}
 use Rattle.term.specs.Questions.{Mode, variants, instances, generalisations, unifiables}
 use Rattle.term.specs.Machine.{fillsQuestion, fillsRule}
 pub use Rattle.commands.specs.declared.kinds.Act.{Act}

@@ -9,7 +9,7 @@ use borrow.Author.Tests.{eq-eqb, ne-eqb}
 use lib.Dec.{eqb}
 use lib.ListN.{length, getD, take, drop, length-take}
 use lib.Seq.{drop-cons}
-use Rattle.term.specs.Counting.{true≢false}
+use Rattle.deciding.specs.Deciding.{pick, true≢false}
 use Rattle.term.specs.Reading.{readTerm, refusalOf}
 use Rattle.term.specs.Whole.{whole-term, whole-alone}
 use Rattle.term.specs.declared.reading.Fault.{Fault}
@@ -17,7 +17,7 @@ use Rattle.term.specs.declared.reading.Fault.the-variants.{TooLong, CutShort, F
 use Rattle.term.specs.declared.reading.Reading.{Reading}
 use Rattle.term.specs.declared.reading.Reading.the-variants.{Whole, Refused}
 use Rattle.commands.specs.Kinds.{Kind, kindAt, aboutRule, term-is, any-number}
-use Rattle.commands.specs.Commands.{Command, pickCommand, pickBool, commandWith, isWrong, withTerm, readBy, commandOf, commandIn, Read}
+use Rattle.commands.specs.Commands.{Command, commandWith, isWrong, withTerm, readBy, commandOf, commandIn, Read}
 
 -- ---- a wrong kind or number
 
@@ -28,12 +28,12 @@ Wrong k number = (k .known ≡ false) ⊎ ((k .zero ≡ true) × ¬ (number ≡ 
 abbrev pub TakesTerm : Kind → ℕ → Type 0
 TakesTerm k number = (k .term ≡ true) × ¬ (Wrong k number)
 
-wrong-to : (known zero : Bool) (n : ℕ) → pickBool known (pickBool zero (not (eqb n 0)) false) true ≡ true → (known ≡ false) ⊎ ((zero ≡ true) × ¬ (n ≡ 0))
+wrong-to : (known zero : Bool) (n : ℕ) → pick known (pick zero (not (eqb n 0)) false) true ≡ true → (known ≡ false) ⊎ ((zero ≡ true) × ¬ (n ≡ 0))
 wrong-to false z n e = inl refl
 wrong-to true false n e = absurd (true≢false e refl)
 wrong-to true true n e = inr (refl, λ q. true≢false e (ap not (eq-eqb n 0 q)))
 
-wrong-of : (known zero : Bool) (n : ℕ) → (known ≡ false) ⊎ ((zero ≡ true) × ¬ (n ≡ 0)) → pickBool known (pickBool zero (not (eqb n 0)) false) true ≡ true
+wrong-of : (known zero : Bool) (n : ℕ) → (known ≡ false) ⊎ ((zero ≡ true) × ¬ (n ≡ 0)) → pick known (pick zero (not (eqb n 0)) false) true ≡ true
 wrong-of false z n w = refl
 wrong-of true z n (inl e) = absurd (true≢false refl e)
 wrong-of true true n (inr x) = ap not (ne-eqb n 0 (x .1))
@@ -125,7 +125,7 @@ module _ (k : Kind) (number : ℕ) (behind : List ℕ) where
       right : isWrong k number ≡ false → ¬ (Wrong k number)
       right e w = true≢false (wrong-of (k .known) (k .zero) number w) e
 
-      go : (b : Bool) → isWrong k number ≡ b → (t : Bool) → k .term ≡ t → (r : Reading) → readTerm behind ≡ r → Says (pickCommand b (commandWith k number 0 2) (pickCommand t (withTerm k number r) (commandWith k number 0 0)))
+      go : (b : Bool) → isWrong k number ≡ b → (t : Bool) → k .term ≡ t → (r : Reading) → readTerm behind ≡ r → Says (pick b (commandWith k number 0 2) (pick t (withTerm k number r) (commandWith k number 0 0)))
       go true e t f r q = wrong (wrong-to (k .known) (k .zero) number e)
       go false e true f (Whole size) q = whole size (f, right e) q
       go false e true f (Refused fault place) q = faulty fault place (f, right e) q

@@ -6,6 +6,7 @@ use Prim.Native.Nat.{ℕ, _+_, _≤_, _<_}
 use lib.Dec.{ltb}
 use lib.ListN.{length, getD, drop, drop-of-length-le}
 use lib.Seq.{drop-cons}
+use Rattle.deciding.specs.Deciding.{pick}
 pub use Rattle.commands.specs.declared.reader.Next.{Next}
 pub use Rattle.commands.specs.declared.reader.Next.the-variants.{Cell, End}
 
@@ -14,13 +15,9 @@ abbrev pub cellIn : List ℕ → Next
 cellIn [] = End
 cellIn (c ∷ behind) = Cell c
 
-abbrev pub pickPlace : Bool → ℕ → ℕ → ℕ
-pickPlace true a b = a
-pickPlace false a b = b
-
 -- The place behind the cell at a place; where there is no cell, the place itself.
 abbrev pub past : List ℕ → ℕ → ℕ
-past cells at = pickPlace (ltb at (length cells)) (at + 1) at
+past cells at = pick (ltb at (length cells)) (at + 1) at
 
 -- ---- laws
 

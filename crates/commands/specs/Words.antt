@@ -6,8 +6,7 @@ use Prim.Native.Nat.{ℕ, _≤_}
 use native.Mathlib.Omega.{arith}
 use borrow.Author.Tests.{eq-eqb, ne-eqb, eqb-true, le-leb, lt-leb, leb-true, le-ltb, ltb-false}
 use lib.Dec.{eqb, leb, ltb}
-use Rattle.deciding.specs.Deciding.{both, of-both}
-use Rattle.term.specs.Counting.{true≢false}
+use Rattle.deciding.specs.Deciding.{both, of-both, true≢false}
 use Rattle.term.specs.Questions.{Mode, variants, instances, generalisations, unifiables}
 use Rattle.commands.specs.Kinds.{Act, Unknown, Add, Remove, Ask, Show, Room, Kind, ask, unknown, kinds, kindAt, every, orNot, same, same-true, since, at-kind}
 

@@ -2,9 +2,10 @@
 ghost use mathlib.Core.Path.{_≡_};
 ghost use Prim.Native.Nat.{_+_, _<_};
 ghost use lib.ListN.{drop};
+ghost use Rattle.deciding.specs.Deciding.{pick};
 ghost use Rattle.term.specs.Reading.{readTerm};
 ghost use Rattle.commands.specs.Reader.{cellIn, past};
-ghost use Rattle.commands.specs.Commands.{pickCommand, commandWith, isWrong, withTerm, commandBy, commandIn};
+ghost use Rattle.commands.specs.Commands.{commandWith, isWrong, withTerm, commandBy, commandIn};
 use crate::kinds;
 use crate::kinds::Act;
 use crate::kinds::Kind;
@@ -61,7 +62,7 @@ fn is_wrong(kind: Kind, number: u16) -> bool
 
 // A command of a known kind and number: its term is read where one follows.
 fn term_at(cells: &[u16], at: usize, kind: Kind, number: u16) -> Command
-    ensures { λ r. ⌜ r ≡ pickCommand (kind .term) (withTerm kind number (readTerm (drop at (now (cells .entry))))) (commandWith kind number 0 0) ⌝ }
+    ensures { λ r. ⌜ r ≡ pick (kind .term) (withTerm kind number (readTerm (drop at (now (cells .entry))))) (commandWith kind number 0 0) ⌝ }
 {
     let act = kind.act;
     if !kind.term {

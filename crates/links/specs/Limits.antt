@@ -11,10 +11,10 @@ use lib.ListN.{length, getD, take, drop, length-take, length-drop, List·getD-eq
 use lib.Seq.{getD-take, getD-drop}
 use mir.Syntax.{w64}
 use mir.Val.{Fits as InWord}
+use Rattle.deciding.specs.Deciding.{true≢false}
 use Rattle.layout.specs.Layout.{nodeMapWords, ruleMapWords, nodesLimit, rulesLimit, ruleMapAt, mapWords, linksAt, lastLink, treeWords}
 use Rattle.bits.specs.Packed.{bits, sum}
 use Rattle.bits.specs.Laws.{length-bits, get-bit}
-use Rattle.term.specs.Counting.{true≢false}
 use Rattle.shape.specs.Shape.{Shape, Hook, child, after, Used, Live, Valid, to, Fits, End, Passes, forms, Short}
 use Rattle.shape.specs.Rows.{row-short}
 use Rattle.shape.specs.Trie.{Bounded}

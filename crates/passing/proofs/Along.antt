@@ -6,8 +6,8 @@ use Prim.Native.Nat.{ℕ, zero, suc, _+_, _-_, _%_, _≤_, _<_}
 use native.Mathlib.Omega.{arith}
 use native.Mathlib.Decide.{decLt}
 use lib.ListN.{length, getD, take}
+use Rattle.deciding.specs.Deciding.{true≢false}
 use Rattle.layout.specs.Layout.{ruleNumbers, nodesLimit, linksAt, firstRule, rulesAt, lastLink, treeWords}
-use Rattle.term.specs.Counting.{true≢false}
 use Rattle.shape.specs.Shape.{after, Used, Fits}
 use Rattle.shape.specs.Rows.{end-childless}
 use Rattle.shape.specs.Leaves.{endOf, rows-free}

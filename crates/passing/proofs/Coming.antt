@@ -7,10 +7,9 @@ use native.Mathlib.Omega.{arith}
 use borrow.Author.Tests.{lt-ltb, le-ltb}
 use lib.Dec.{eqb}
 use lib.ListN.{length, getD, set}
-use Rattle.deciding.specs.Deciding.{pick}
+use Rattle.deciding.specs.Deciding.{pick, true≢false}
 use Rattle.layout.specs.Layout.{nodesLimit, mapWords, linksAt, lastLink}
 use Rattle.bits.specs.Packed.{bits}
-use Rattle.term.specs.Counting.{true≢false}
 use Rattle.shape.specs.Tally.{marked}
 use Rattle.shape.specs.Tallies.{mark-here, mark-other}
 use Rattle.links.specs.Words.{cellOf, parentOf, firstOf, nextOf, Node}

@@ -8,9 +8,9 @@ use native.Mathlib.Omega.{arith}
 use native.Mathlib.Decide.{ℕ-discrete, decLt}
 use lib.ListN.{length, getD, set, take, length-set}
 use lib.Seq.{getD-set-same, getD-set-other, getD-take}
+use Rattle.deciding.specs.Deciding.{true≢false}
 use Rattle.layout.specs.Layout.{nodesLimit, linksAt, lastLink, treeWords}
 use Rattle.shape.specs.Shape.{Shape, child, to, owner, floor, Fits, Up, down}
-use Rattle.term.specs.Counting.{true≢false}
 use Rattle.shape.specs.Rows.{up-same}
 use Rattle.shape.specs.Tally.{tally, marked}
 use Rattle.shape.specs.Tallies.{tally-more}

@@ -7,10 +7,9 @@ use native.Mathlib.Omega.{arith}
 use lib.ListN.{length, getD, set, take, length-take, replicate, length-append, length-replicate}
 use native.Mathlib.Decide.{ℕ-discrete}
 use lib.Seq.{getD-take, getD-set-same, getD-set-other, ext-getD}
-use Rattle.deciding.specs.Deciding.{Decides}
+use Rattle.deciding.specs.Deciding.{Decides, true≢false}
 use Rattle.layout.specs.Layout.{mapWords, linksAt, treeWords, bookWords}
 use Rattle.bits.specs.Packed.{bits}
-use Rattle.term.specs.Counting.{true≢false}
 use Rattle.shape.specs.Shape.{child, after}
 use Rattle.shape.specs.Tally.{marked}
 use Rattle.shape.specs.Tallies.{same-bits, no-mark}

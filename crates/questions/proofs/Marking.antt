@@ -18,7 +18,7 @@ use Rattle.shape.specs.Search.{keep, hits}
 use Rattle.book.specs.Memory.{view}
 use Rattle.questions.specs.declared.Point.{Point}
 use Rattle.questions.specs.Walk.{reading, onDone, next, good, listed-none}
-use Rattle.questions.specs.Promises.{Threaded, sizeAt, hitsAt, Ready, Marked, beside, siblings, Numbered}
+use Rattle.questions.specs.Promises.{Threaded, sizeAt, hitsAt, Ready, Marked, beside, siblings, RulesBeside}
 use Rattle.questions.proofs.Leaving.{n, cell-is, opened, sizes, tip-at}
 use Rattle.questions.proofs.Threads.{beside-threaded}
 
@@ -98,7 +98,7 @@ module _ (fq fr : Bool) (ws q : List ℕ) (p : Point) (z : p .skip ≤ 0) (h : l
   unfolding hitsAt siblings
   all-answer = done-hits fq fr (view ws .tree) _ is-done (trie (view ws .tree) (p .link))
 
-  pub numbered : Ready fq fr ws q p → Numbered ws (p .link)
+  pub numbered : Ready fq fr ws q p → RulesBeside ws (p .link)
   numbered r = record { threaded = r .threaded; low = λ n i. r .low n (subst (List·Memᴰ n) (sym all-answer) i) }
 
 -- ---- the loop over them
@@ -111,7 +111,7 @@ pub record Marking (ws marks₀ : List ℕ) (link : ℕ) (marks : List ℕ) (x :
   pub total : sofar ++ siblings ws x ≡ siblings ws link
   pub low : (n : ℕ) → List·Memᴰ n (siblings ws link) → view ws .tree .cell n < ruleNumbers
 
-pub begins : (ws marks : List ℕ) (link : ℕ) → Numbered ws link → NumberSet marks → Marking ws marks link marks link
+pub begins : (ws marks : List ℕ) (link : ℕ) → RulesBeside ws link → NumberSet marks → Marking ws marks link marks link
 begins ws marks link a s = record { threaded = a .threaded; sofar = []; marked = marks-none ws marks s; total = refl; low = a .low }
 
 pub marks-all : (ws marks₀ : List ℕ) (link : ℕ) (marks : List ℕ) (x : ℕ) → Marking ws marks₀ link marks x → x ≡ 0 → Marked ws marks₀ marks (siblings ws link)

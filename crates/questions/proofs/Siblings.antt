@@ -8,8 +8,9 @@ use native.Mathlib.Omega.{arith}
 use native.Mathlib.Decide.{ℕ-discrete, decLt}
 use borrow.Author.Tests.{lt-ltb, le-ltb, ne-eqb}
 use lib.ListN.{length, getD, drop}
+use Rattle.deciding.specs.Deciding.{pick}
 use Rattle.layout.specs.Layout.{linksAt}
-use Rattle.term.specs.Cells.{Cell, vari, symb, star, Row, Blank, pickCell, arity, blankOf, blankForm}
+use Rattle.term.specs.Cells.{Cell, vari, symb, star, Row, Blank, arity, blankOf, blankForm}
 use Rattle.term.specs.Machine.{failed, at, past, meet, onlyIf, step}
 use Rattle.term.specs.Steps.{spot}
 use Rattle.links.specs.Words.{cellOf, nextOf}
@@ -22,10 +23,10 @@ use Rattle.questions.proofs.Threads.{beside-threaded, beside-smaller, b
 
 -- a symbol and a variable as blank forms have them
 symbol : (c : ℕ) → c < 32768 → blankOf c ≡ symb c
-symbol c h = ap (λ (b : Bool). pickCell b (symb c) star) (lt-ltb c 32768 h)
+symbol c h = ap (λ (b : Bool). pick b (symb c) star) (lt-ltb c 32768 h)
 
 variable : (c : ℕ) → 32768 ≤ c → blankOf c ≡ star
-variable c h = ap (λ (b : Bool). pickCell b (symb c) star) (le-ltb c 32768 h)
+variable c h = ap (λ (b : Bool). pick b (symb c) star) (le-ltb c 32768 h)
 
 -- the cell at a place of the question, and those behind it
 cells-from : (q : List ℕ) (place : ℕ) → place < length q → drop place (blankForm q) ≡ blankOf (getD q place 0) ∷ drop (suc place) (blankForm q)

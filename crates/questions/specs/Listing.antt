@@ -6,12 +6,12 @@ use mathlib.Core.Bool.{Bool, true, false}
 use Prim.Native.Nat.{ℕ, zero, suc, _+_, _-_, _≤_, _<_}
 use native.Mathlib.Omega.{arith}
 use lib.ListN.{length, length-append}
+use Rattle.deciding.specs.Deciding.{true≢false}
 use Rattle.layout.specs.Layout.{ruleNumbers}
 use Rattle.bits.specs.Numbers.{has, Member}
 use Rattle.term.specs.Cells.{blankForm}
 use Rattle.term.specs.Questions.{Mode}
 use Rattle.term.specs.Machine.{accepts, fillsQuestion, fillsRule}
-use Rattle.term.specs.Counting.{true≢false}
 use Rattle.shape.specs.Tally.{bit, tally}
 use Rattle.book.specs.Rules.{Rule, Held, nothing, rule, each}
 use Rattle.book.specs.Gathered.{each-split, each-none, rule-inj, not-rule}

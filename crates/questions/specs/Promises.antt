@@ -52,7 +52,7 @@ pub record Onwards (ws : List ℕ) (cell w r : ℕ) : Type 0 where
   pub on : Onward (view ws .tree) w most r
 
 -- A link of the tree, up to which all is passed by.
-pub record Begins (ws : List ℕ) (cell link r : ℕ) : Type 0 where
+pub record LeapsTo (ws : List ℕ) (cell link r : ℕ) : Type 0 where
   pub threaded : Threaded ws r
   pub by : PassesBy ws cell link r
 
@@ -111,7 +111,7 @@ unfoldable pub siblings : List ℕ → ℕ → List ℕ
 siblings ws link = beside (trie (view ws .tree) link)
 
 -- All of them have numbers that can be marked.
-pub record Numbered (ws : List ℕ) (link : ℕ) : Type 0 where
+pub record RulesBeside (ws : List ℕ) (link : ℕ) : Type 0 where
   pub threaded : Threaded ws link
   pub low : (n : ℕ) → List·Memᴰ n (siblings ws link) → view ws .tree .cell n < ruleNumbers
 

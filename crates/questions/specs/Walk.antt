@@ -6,11 +6,11 @@ use Prim.Native.Nat.{ℕ, suc, _+_, _-_, _<_}
 use native.Mathlib.Omega.{arith}
 use native.Mathlib.Decide.{decLt}
 use lib.Dec.{T}
+use Rattle.deciding.specs.Deciding.{true≢false}
 use Rattle.layout.specs.Layout.{nodesLimit, rulesLimit, lastLink}
 use Rattle.term.specs.Cells.{Row, Blank, Proper, Terms, blankOf, blankForm}
 use Rattle.term.specs.Machine.{State, failed, at, step, run, done}
 use Rattle.term.specs.Matching.{AllProper, accepted-whole}
-use Rattle.term.specs.Counting.{true≢false}
 use Rattle.term.specs.Preorder.{same-rest}
 use Rattle.shape.specs.Shape.{Shape, Used, Up}
 use Rattle.shape.specs.Trie.{Trie, tip, node, trie, Bounded}

@@ -3,7 +3,7 @@ ghost use mathlib.Core.Path.{_≡_};
 ghost use lib.ListN.{length};
 ghost use Rattle.layout.specs.Layout.{bookWords};
 ghost use Rattle.links.specs.Words.{cellOf};
-ghost use Rattle.questions.specs.Promises.{Onwards, Begins, Sought, Threaded};
+ghost use Rattle.questions.specs.Promises.{Onwards, LeapsTo, Sought, Threaded};
 use book::Book;
 
 // The mark of a blank, as wide as the cell of a word.
@@ -31,7 +31,7 @@ fn onward(m: &[u64], cell: u64, w: u64) -> usize
 // Where to begin looking for the cell from the link on: where a sign leads to it or near it, or at the link.
 fn leap(m: &[u64], cell: u64, link: usize) -> usize
     requires { ⌜ Threaded (now m) link ⌝ }
-    ensures { λ r. ⌜ Begins (now (m .entry)) cell link r ⌝ }
+    ensures { λ r. ⌜ LeapsTo (now (m .entry)) cell link r ⌝ }
 {
     if link == 0 {
         return link;

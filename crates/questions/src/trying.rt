@@ -5,7 +5,7 @@ ghost use mathlib.Core.List.{[]};
 ghost use lib.ListN.{length};
 ghost use Rattle.layout.specs.Layout.{lastLink, bookWords};
 ghost use Rattle.bits.specs.Numbers.{NumberSet};
-ghost use Rattle.questions.specs.Promises.{Decisive, LastWanted, PassesNode, Numbered, Marked, siblings, Ready, Left, Tried};
+ghost use Rattle.questions.specs.Promises.{Decisive, LastWanted, PassesNode, RulesBeside, Marked, siblings, Ready, Left, Tried};
 use crate::seeking::MARK;
 use crate::seeking::sibling;
 use book::Book;
@@ -77,7 +77,7 @@ fn pass_node(m: &[u64], link: usize, left: usize, place: usize) -> Ways
 
 // Marks the numbers of the rules from the link on: all siblings are.
 fn mark_rules(m: &[u64], marks: &mut [u64], link: usize)
-    requires { ⌜ Numbered (now m) link ⌝ }
+    requires { ⌜ RulesBeside (now m) link ⌝ }
     requires { ⌜ NumberSet (now marks) ⌝ }
     ensures { λ _. ⌜ Marked (now (m .entry)) (now (marks .entry)) (now (marks .exit)) (siblings (now (m .entry)) link) ⌝ }
 {

@@ -6,11 +6,10 @@ use Prim.Native.Nat.{ℕ}
 use native.Mathlib.Omega.{arith}
 use borrow.Author.Tests.{eqb-true, eqb-false}
 use lib.Dec.{eqb}
-use Rattle.term.specs.Counting.{true≢false}
 use Rattle.term.specs.Reading.{readTerm}
 use Rattle.term.specs.declared.reading.Fault.{Fault}
 use Rattle.term.specs.declared.reading.Reading.the-variants.{Whole, Refused}
-use Rattle.deciding.specs.Deciding.{Decides}
+use Rattle.deciding.specs.Deciding.{Decides, true≢false}
 
 whole-inj : {a b : ℕ} → Whole a ≡ Whole b → a ≡ b
 whole-inj e = cc

@@ -8,11 +8,10 @@ use native.Mathlib.Omega.{arith}
 use native.Mathlib.Decide.{ℕ-discrete, decLt}
 use lib.Bits.{bitOr, or-add-and, and-le-l, and-le-r}
 use lib.ListN.{length, getD, List·getD-eq-default}
-use Rattle.deciding.specs.Deciding.{Decides}
+use Rattle.deciding.specs.Deciding.{Decides, true≢false}
 use Rattle.layout.specs.Layout.{termWords}
 use Rattle.bits.specs.Packed.{fields}
 use Rattle.bits.specs.Laws.{get-unpack, field-at}
-use Rattle.term.specs.Counting.{true≢false}
 use Rattle.recorded.proofs.Plainly.{plain-term}
 use Rattle.recorded.specs.Way.{blanks, numbered, wordOf, Kept, none, more, Low}
 use Rattle.recorded.specs.WayCells.{blanks-low, kept-word, numbered-low}

@@ -6,10 +6,9 @@ use Prim.Native.Nat.{ℕ, _+_, _-_, _*_, _%_, _≤_, _<_}
 use native.Mathlib.Omega.{arith}
 use native.Mathlib.Decide.{ℕ-discrete}
 use lib.ListN.{getD, take, drop}
-use Rattle.deciding.specs.Deciding.{Decides, decided, denied}
+use Rattle.deciding.specs.Deciding.{Decides, decided, denied, true≢false}
 use Rattle.layout.specs.Layout.{ruleNumbers, rulesLimit, rulesAt, placesAt, placeWords, termWords, recordWords, recordsAt, termsAt}
 use Rattle.bits.specs.Packed.{fields}
-use Rattle.term.specs.Counting.{true≢false}
 use Rattle.term.specs.Reading.{readTerm}
 use Rattle.term.specs.declared.reading.Reading.the-variants.{Whole}
 use Rattle.book.specs.Filling.{Zeros}

@@ -8,8 +8,8 @@ use Prim.Native.Nat.{ℕ, zero, suc, _≤_}
 use native.Mathlib.Omega.{arith}
 use native.Mathlib.Decide.{ℕ-discrete}
 use native.Mathlib.Nat.{suc-inj}
+use Rattle.deciding.specs.Deciding.{true≢false}
 use Rattle.term.specs.Beginnings.{Distinct}
-use Rattle.term.specs.Counting.{true≢false}
 use Rattle.shape.specs.Shape.{Shape, Hook, child, after, Used, Valid, to, owner, floor, Fits, Up, down, Tree}
 use Rattle.shape.specs.Order.{one-source}
 use Rattle.shape.specs.Unfolded.{reach}

@@ -2,7 +2,7 @@
 use mathlib.Core.Path.{_≡_, refl, sym, _∙_, subst}
 use mathlib.Core.Bool.{Bool, true, false}
 use Prim.Native.Nat.{ℕ, suc}
-use Rattle.term.specs.Counting.{true≢false}
+use Rattle.deciding.specs.Deciding.{true≢false}
 use Rattle.shape.specs.Shape.{Shape, Hook, child, after, Used, Valid, to, owner}
 use Rattle.shape.specs.Change.{Links, Unlinks}
 

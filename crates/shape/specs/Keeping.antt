@@ -4,7 +4,7 @@ use mathlib.Core.List.{List}
 use mathlib.Core.Bool.{false}
 use Prim.Native.Nat.{ℕ, zero, suc, _≤_}
 use native.Mathlib.Omega.{arith}
-use Rattle.term.specs.Counting.{true≢false}
+use Rattle.deciding.specs.Deciding.{true≢false}
 use Rattle.shape.specs.Basics.{up-used}
 use Rattle.shape.specs.Shape.{Shape, Hook, child, after, Valid, owner, floor, Fits, Up, top, down, On, here, above, Tree}
 use Rattle.shape.specs.Order.{childless}

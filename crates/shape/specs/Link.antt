@@ -6,7 +6,7 @@ use Prim.Native.Nat.{ℕ, zero, suc}
 use native.Mathlib.Omega.{arith}
 use native.Mathlib.Decide.{ℕ-discrete}
 use native.Mathlib.Nat.{suc-inj}
-use Rattle.term.specs.Counting.{true≢false}
+use Rattle.deciding.specs.Deciding.{true≢false}
 use Rattle.shape.specs.Shape.{Shape, Hook, Hook-discrete, child, after, Used, Valid, to, owner, Fits, Source, Up, top, down, Tree}
 use Rattle.shape.specs.Change.{Links, Sorted}
 use Rattle.shape.specs.Keeping.{valid-kept, owner-kept, floor-of, fits-kept, up-kept, free-off}

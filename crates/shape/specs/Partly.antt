@@ -9,8 +9,8 @@ use native.Mathlib.Omega.{arith}
 use native.Mathlib.Decide.{ℕ-discrete}
 use lib.ListN.{length}
 use native.Mathlib.Nat.{suc-inj}
+use Rattle.deciding.specs.Deciding.{true≢false}
 use Rattle.layout.specs.Layout.{nodesLimit}
-use Rattle.term.specs.Counting.{true≢false}
 use Rattle.shape.specs.Basics.{up-used, up-parent}
 use Rattle.shape.specs.Shape.{Shape, Hook, child, Used, owner, Up, down, On, here, above, Tree, End, Covered, Passes, Joins, forms, PrefixFree}
 use Rattle.shape.specs.Order.{childless}

@@ -10,11 +10,11 @@ use lib.Dec.{eqb}
 use native.Mathlib.Nat.{zero-div}
 use lib.ListN.{length, getD, set, replicate}
 use lib.Seq.{ext-getD, getD-set-same, getD-set-other}
+use Rattle.deciding.specs.Deciding.{true≢false}
 use Rattle.bits.specs.Packed.{bits, sum}
 use Rattle.bits.specs.Laws.{length-bits, bit-low, get-bit}
 use Rattle.term.specs.Beginnings.{putIf, Distinct}
 use Rattle.term.specs.Distinct.{put-member, put-keeps, put-adds, put-distinct}
-use Rattle.term.specs.Counting.{true≢false}
 use Rattle.shape.specs.Tally.{bit, tally, marked}
 
 -- ---- the numbers that pass, as a list

@@ -5,7 +5,7 @@ use Prim.Native.Nat.{ℕ, suc}
 use native.Mathlib.Omega.{arith}
 use native.Mathlib.Decide.{ℕ-discrete}
 use native.Mathlib.Nat.{suc-inj}
-use Rattle.term.specs.Counting.{true≢false}
+use Rattle.deciding.specs.Deciding.{true≢false}
 use Rattle.shape.specs.Shape.{Shape, Hook, Hook-discrete, child, after, Used, Valid, to, Fits, Source, Up, Tree}
 use Rattle.shape.specs.Order.{one-source}
 use Rattle.shape.specs.Change.{Unlinks}

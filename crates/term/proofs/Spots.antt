@@ -8,15 +8,16 @@ use native.Mathlib.Omega.{arith}
 use lib.Dec.{ltb}
 use lib.ListN.{length, length-map, getD, drop, drop-of-length-le}
 use borrow.Author.Tests.{lt-ltb, le-ltb, eq-eqb, ne-eqb, ltb-true, ltb-false}
-use Rattle.term.specs.Cells.{Row, Blank, star, symb, arity, pickCell, blankOf, blankForm}
+use Rattle.deciding.specs.Deciding.{pick}
+use Rattle.term.specs.Cells.{Row, Blank, star, symb, arity, blankOf, blankForm}
 use Rattle.term.specs.Machine.{at, past, step}
 use Rattle.term.specs.Steps.{spot, Passed, Stepped}
 
 pub is-symbol : (c : ℕ) → c < 32768 → blankOf c ≡ symb c
-is-symbol c h = ap (λ b. pickCell b (symb c) star) (lt-ltb c 32768 h)
+is-symbol c h = ap (λ b. pick b (symb c) star) (lt-ltb c 32768 h)
 
 pub is-blank : (c : ℕ) → 32768 ≤ c → blankOf c ≡ star
-is-blank c h = ap (λ b. pickCell b (symb c) star) (le-ltb c 32768 h)
+is-blank c h = ap (λ b. pick b (symb c) star) (le-ltb c 32768 h)
 
 pub cell-here : (q : List ℕ) (i : ℕ) → i < length q → drop i (blankForm q) ≡ blankOf (getD q i 0) ∷ drop (suc i) (blankForm q)
 cell-here [] i h = absurd (omega arith)

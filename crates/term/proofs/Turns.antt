@@ -9,14 +9,15 @@ use borrow.Author.Tests.{ltb-true}
 use lib.Dec.{ltb, leb}
 use lib.ListN.{length, drop, getD}
 use lib.Seq.{drop-cons}
-use Rattle.term.specs.Reading.{Fault, Taken, Wants, Faulty, Whole, Refused, TooLong, CutShort, pickTaken, takes, goOn, readFrom}
+use Rattle.deciding.specs.Deciding.{pick}
+use Rattle.term.specs.Reading.{Fault, Taken, Wants, Faulty, Whole, Refused, TooLong, CutShort, takes, goOn, readFrom}
 
 -- A cell calls for at most 7 arguments.
 asked : Taken → ℕ
 asked (Wants a k) = a
 asked (Faulty fault) = 0
 
-asked-pick : (b : Bool) (s t : Taken) → (b ≡ true → asked s ≤ 7) → asked t ≤ 7 → asked (pickTaken b s t) ≤ 7
+asked-pick : (b : Bool) (s t : Taken) → (b ≡ true → asked s ≤ 7) → asked t ≤ 7 → asked (pick b s t) ≤ 7
 asked-pick true s t h k = h refl
 asked-pick false s t h k = k
 

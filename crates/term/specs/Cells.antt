@@ -3,6 +3,7 @@ use mathlib.Core.List.{List, [], _∷_, map}
 use mathlib.Core.Bool.{Bool, true, false}
 use Prim.Native.Nat.{ℕ, zero, suc, _+_, _-_, _/_, _<_}
 use lib.Dec.{ltb}
+use Rattle.deciding.specs.Deciding.{pick}
 
 -- A cell is a variable or a symbol. A symbol is its name number and its arity together, the 15 bits below a cell's first.
 -- X is what tells variables apart: their numbers in a term, and nothing in a blank form.
@@ -40,20 +41,15 @@ abbrev pub blanked : {X : Type 0} → Cell X → Cell Blank
 blanked (vari x) = star
 blanked (symb c) = symb c
 
--- The cell of a 16-bit number: from 32,768 on its first bit is 1, a variable's.
-abbrev pub pickCell : {X : Type 0} → Bool → Cell X → Cell X → Cell X
-pickCell true c d = c
-pickCell false c d = d
-
 abbrev pub cellOf : ℕ → Cell ℕ
-cellOf c = pickCell (ltb c 32768) (symb c) (vari (c - 32768))
+cellOf c = pick (ltb c 32768) (symb c) (vari (c - 32768))
 
 abbrev pub termOf : List ℕ → Row ℕ
 termOf = map cellOf
 
 -- The blank form of a row of 16-bit numbers, in one go.
 abbrev pub blankOf : ℕ → Cell Blank
-blankOf c = pickCell (ltb c 32768) (symb c) star
+blankOf c = pick (ltb c 32768) (symb c) star
 
 abbrev pub blankForm : List ℕ → Row Blank
 blankForm = map blankOf

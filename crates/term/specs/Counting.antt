@@ -7,15 +7,12 @@ use mathlib.Core.Bool.{Bool, true, false, not}
 use Prim.Native.Nat.{ℕ, suc, _+_}
 use native.Mathlib.Omega.{arith}
 use lib.ListN.{length}
-use Rattle.deciding.specs.Deciding.{both}
+use Rattle.deciding.specs.Deciding.{both, true≢false}
 use Rattle.term.specs.Beginnings.{inits, beginnings, either, putIf, sameRow, has, different, nodes, Distinct, Begins}
 use Rattle.term.specs.Distinct.{put-member, put-keeps, put-adds, put-distinct, as-many, distinct-map}
 
 pub cons-eq : {A : Type 0} {a b : A} {x y : List A} → a ≡ b → x ≡ y → a ∷ x ≡ b ∷ y
 cons-eq {A} p q = ap₂ {C = List A} _∷_ p q
-
-pub true≢false : {b : Bool} → b ≡ true → b ≡ false → ⊥
-true≢false p q = let z : _≡_ {A = ℕ} 0 1 = cc in omega arith
 
 not-nil : {A : Type 0} {c : A} {p : List A} → ¬ (c ∷ p ≡ [])
 not-nil e = let z : _≡_ {A = ℕ} 0 1 = cc in omega arith

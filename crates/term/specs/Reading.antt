@@ -3,6 +3,7 @@ use mathlib.Core.List.{List, [], _∷_}
 use mathlib.Core.Bool.{Bool, true, false}
 use Prim.Native.Nat.{ℕ, zero, suc, _+_, _-_, _/_}
 use lib.Dec.{ltb, leb}
+use Rattle.deciding.specs.Deciding.{pick}
 pub use Rattle.term.specs.declared.reading.Fault.{Fault}
 pub use Rattle.term.specs.declared.reading.Fault.the-variants.{TooLong, CutShort, FieldSet, AboveFifteen, AboveCount}
 pub use Rattle.term.specs.declared.reading.Taken.{Taken}
@@ -18,22 +19,18 @@ refusalOf FieldSet = 4
 refusalOf AboveFifteen = 4
 refusalOf AboveCount = 4
 
-abbrev pub pickTaken : Bool → Taken → Taken → Taken
-pickTaken true a b = a
-pickTaken false a b = b
-
 -- A variable with the number n, where the variables 0 to known - 1 have been met: an old one, the next new one, or a fault.
 abbrev pub variable : (known n : ℕ) → Taken
 variable known n =
-    pickTaken (ltb 15 n) (Faulty AboveFifteen)
-    (pickTaken (ltb known n) (Faulty AboveCount)
-    (pickTaken (ltb n known) (Wants 0 known) (Wants 0 (n + 1))))
+    pick (ltb 15 n) (Faulty AboveFifteen)
+    (pick (ltb known n) (Faulty AboveCount)
+    (pick (ltb n known) (Wants 0 known) (Wants 0 (n + 1))))
 
 -- A cell: below 8000 a symbol, whose arity is its first hex digit; from 9000 on a bit of a variable's 3-bit field is set.
 unfoldable pub takes : (known c : ℕ) → Taken
 takes known c =
-    pickTaken (ltb c 0x8000) (Wants (c / 4096) known)
-    (pickTaken (leb 0x9000 c) (Faulty FieldSet) (variable known (c - 0x8000)))
+    pick (ltb c 0x8000) (Wants (c / 4096) known)
+    (pick (leb 0x9000 c) (Faulty FieldSet) (variable known (c - 0x8000)))
 
 abbrev pub goOn : Taken → ℕ → (ℕ → ℕ → Reading) → Reading
 goOn (Wants arity known) place next = next arity known

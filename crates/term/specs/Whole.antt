@@ -8,15 +8,16 @@ use native.Mathlib.Omega.{arith}
 use borrow.Author.Tests.{ltb-true}
 use lib.Dec.{ltb, leb}
 use lib.ListN.{length, take}
-use Rattle.term.specs.Cells.{vari, symb, Row, star, arity, Proper, Terms, none, more, blanked, pickCell, cellOf, termOf, blankOf, blankForm}
-use Rattle.term.specs.Reading.{Whole, Refused, Fault, Taken, Wants, Faulty, pickTaken, takes, goOn, readFrom, readTerm}
+use Rattle.deciding.specs.Deciding.{pick}
+use Rattle.term.specs.Cells.{Cell, vari, symb, Row, star, arity, Proper, Terms, none, more, blanked, cellOf, termOf, blankOf, blankForm}
+use Rattle.term.specs.Reading.{Whole, Refused, Fault, Taken, Wants, Faulty, takes, goOn, readFrom, readTerm}
 use Rattle.term.specs.Preorder.{recount, not-empty}
 
 -- A cell of a term and the same cell of its blank form.
 pub blank-cell : (c : ℕ) → blanked (cellOf c) ≡ blankOf c
 blank-cell c = go (ltb c 32768)
   where
-    go : (b : Bool) → blanked (pickCell b (symb c) (vari (c - 32768))) ≡ pickCell b (symb c) star
+    go : (b : Bool) → blanked (pick b (symb c) (vari (c - 32768))) ≡ pick b (symb c) star
     go true = refl
     go false = refl
 
@@ -32,7 +33,7 @@ blank-terms (more {c = symb c} p t) = more p (blank-terms t)
 proper-cell : (c : ℕ) → Proper (cellOf c)
 proper-cell c = go (ltb c 32768) refl
   where
-    go : (b : Bool) → ltb c 32768 ≡ b → Proper (pickCell {X = ℕ} b (symb c) (vari (c - 32768)))
+    go : (b : Bool) → ltb c 32768 ≡ b → Proper (pick {X = Cell ℕ} b (symb c) (vari (c - 32768)))
     go true e = ltb-true c 32768 e
     go false e = tt
 
@@ -41,7 +42,7 @@ abbrev asks : Taken → ℕ → Type 0
 asks (Wants a k) n = a ≡ n
 asks (Faulty fault) n = Unit {0}
 
-asks-pick : (b : Bool) (s t : Taken) (n : ℕ) → (b ≡ true → asks s n) → (b ≡ false → asks t n) → asks (pickTaken b s t) n
+asks-pick : (b : Bool) (s t : Taken) (n : ℕ) → (b ≡ true → asks s n) → (b ≡ false → asks t n) → asks (pick b s t) n
 asks-pick true s t n h k = h refl
 asks-pick false s t n h k = k refl
 

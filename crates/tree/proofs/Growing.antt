@@ -10,10 +10,10 @@ use native.Mathlib.Decide.{decLt}
 use lib.Dec.{eqb}
 use lib.ListN.{length, getD, take, drop, length-take, length-drop, length-append, length-reverse}
 use lib.Seq.{getD-drop, getD-take, take-all}
+use Rattle.deciding.specs.Deciding.{true≢false}
 use Rattle.layout.specs.Layout.{nodeMapWords, nodesLimit, nodeMapLast, mapWords, treeWords}
 use Rattle.bits.specs.Packed.{bits, sum, Skipped, First}
 use Rattle.bits.specs.Laws.{length-bits, get-bit, bit-low}
-use Rattle.term.specs.Counting.{true≢false}
 use Rattle.shape.specs.Basics.{up-live}
 use Rattle.shape.specs.Shape.{Hook, Used, owner, Up, Tree}
 use Rattle.shape.specs.Order.{childless}

@@ -1,8 +1,8 @@
 -- The first two words have the way's cells and the other six are zero, word by word.
 use borrow.Author.Needs.{needs}
 use borrow.Author.Tests.{eqb-true}
-use Rattle.term.specs.Counting.{true≢false}
 use mathlib.Core.Path.{refl}
+use Rattle.deciding.specs.Deciding.{true≢false}
 use Rattle.recorded.proofs.Moving.{plain-short, plain-long}
 use Rattle.recorded.proofs.is_plain.Statement.{statement}
 use Rattle.recorded.proofs.is_plain.Tie as tie

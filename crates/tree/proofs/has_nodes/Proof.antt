@@ -1,9 +1,9 @@
 -- Where the last word of the map is 0 its 64 nodes are free; else the set bits are counted
 use mathlib.Core.Path.{refl}
 use native.Mathlib.Omega.{arith}
-use Rattle.term.specs.Counting.{true≢false}
 use Rattle.tree.proofs.Growing.{last-free, held-is, held-low}
 use borrow.Author.Needs.{needs}
+use Rattle.deciding.specs.Deciding.{true≢false}
 use Rattle.tree.proofs.has_nodes.Statement.{statement}
 use Rattle.tree.proofs.has_nodes.Tie as tie
 

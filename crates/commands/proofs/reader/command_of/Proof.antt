@@ -5,10 +5,11 @@ use mathlib.Core.List.{List}
 use mathlib.Core.Bool.{Bool, true, false}
 use Prim.Native.Nat.{ℕ, _/_, _%_}
 use lib.ListN.{drop}
+use Rattle.deciding.specs.Deciding.{pick}
 use Rattle.term.specs.Reading.{readTerm}
 use Rattle.commands.specs.Kinds.{Kind, kindAt}
 use Rattle.commands.specs.Reader.{Next, Cell}
-use Rattle.commands.specs.Commands.{Command, pickCommand, commandWith, isWrong, withTerm, readBy, commandBy}
+use Rattle.commands.specs.Commands.{Command, commandWith, isWrong, withTerm, readBy, commandBy}
 use Rattle.commands.proofs.reader.command_of.Statement.{statement}
 use Rattle.commands.proofs.reader.command_of.Tie as tie
 
@@ -18,15 +19,15 @@ module _ (next : Next) (c : ℕ) (is : next ≡ Cell c) (behind : List ℕ) (k :
   by-row = ap (λ (x : Kind). readBy x (c % 4096) behind) row ∙ sym (ap (λ (n : Next). commandBy n behind) is)
 
   abbrev rest : Command
-  rest = pickCommand (k .term) (withTerm k (c % 4096) (readTerm behind)) (commandWith k (c % 4096) 0 0)
+  rest = pick (k .term) (withTerm k (c % 4096) (readTerm behind)) (commandWith k (c % 4096) 0 0)
 
   two : (w : Bool) → w ≡ isWrong k (c % 4096) → w ≡ true → commandWith k (c % 4096) 0 2 ≡ commandBy next behind
   unfolding readBy
-  two w e t = ap (λ (b : Bool). pickCommand b (commandWith k (c % 4096) 0 2) rest) (sym t ∙ e) ∙ by-row
+  two w e t = ap (λ (b : Bool). pick b (commandWith k (c % 4096) 0 2) rest) (sym t ∙ e) ∙ by-row
 
   others : (w : Bool) (r : Command) → w ≡ isWrong k (c % 4096) → w ≡ false → r ≡ rest → r ≡ commandBy next behind
   unfolding readBy
-  others w r e t q = q ∙ ap (λ (b : Bool). pickCommand b (commandWith k (c % 4096) 0 2) rest) (sym t ∙ e) ∙ by-row
+  others w r e t q = q ∙ ap (λ (b : Bool). pick b (commandWith k (c % 4096) 0 2) rest) (sym t ∙ e) ∙ by-row
 
 returns : tie.Need-returns
 returns c = let s = c .before .before .before in sym (ap (λ (n : Next). commandBy n (drop (s .args .at) (s .args .cells .now))) (c .enum-told .given .1))

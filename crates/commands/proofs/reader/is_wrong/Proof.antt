@@ -4,13 +4,14 @@ use mathlib.Core.Path.{_≡_, refl, sym, ap₂}
 use mathlib.Core.Bool.{Bool, true, false, not}
 use Prim.Native.Nat.{ℕ}
 use lib.Dec.{eqb}
+use Rattle.deciding.specs.Deciding.{pick}
 use Rattle.commands.specs.Kinds.{Kind}
-use Rattle.commands.specs.Commands.{pickBool, isWrong}
+use Rattle.commands.specs.Commands.{isWrong}
 use Rattle.commands.proofs.reader.is_wrong.Statement.{statement}
 use Rattle.commands.proofs.reader.is_wrong.Tie as tie
 
-by-flags : (k : Kind) (n : ℕ) {a b : Bool} → k .known ≡ a → k .zero ≡ b → pickBool a (pickBool b (not (eqb n 0)) false) true ≡ isWrong k n
-by-flags k n e f = ap₂ (λ (a b : Bool). pickBool a (pickBool b (not (eqb n 0)) false) true) (sym e) (sym f)
+by-flags : (k : Kind) (n : ℕ) {a b : Bool} → k .known ≡ a → k .zero ≡ b → pick a (pick b (not (eqb n 0)) false) true ≡ isWrong k n
+by-flags k n e f = ap₂ (λ (a b : Bool). pick a (pick b (not (eqb n 0)) false) true) (sym e) (sym f)
 
 pub is-wrong-spec : {M : Type 1} → statement M
 is-wrong-spec =

@@ -38,7 +38,8 @@ use denote.Triple.Table.{entered, cited}
 use denote.Triple.Walked.{says, Stays, stay-none, walkOf, goes-none, Walks, ends-at, walked, walk-meets}
 use denote.Exit.{yes as ended-yes}
 use denote.Triple.Clauses.{ensured, lasts}
-use Rattle.commands.specs.Reader.{Next, cellIn, pickPlace, past}
+use Rattle.deciding.specs.Deciding.{pick}
+use Rattle.commands.specs.Reader.{Next, cellIn, past}
 use Rattle.commands.specs.Commands.{Command, commandBy, commandIn}
 use Rattle.commands.specs.declared.reader.Reader.{Reader}
 use Rattle.commands.specs.Laws.{first-cell}
@@ -71,7 +72,7 @@ use Rattle.commands.proofs.reader.next_command.Code as code
 
 module _ (cells : List ℕ) (at : ℕ) where
   by-test : (b : Bool) → ltb at (length cells) ≡ b
-      → commandBy (cellIn (drop-cells at cells)) (drop-cells (pickPlace b (at + 1) at) cells) ≡ commandIn (drop-cells at cells)
+      → commandBy (cellIn (drop-cells at cells)) (drop-cells (pick b (at + 1) at) cells) ≡ commandIn (drop-cells at cells)
   by-test true e =
       let h = ltb-true at (length cells) e in
       ap (λ (l : List ℕ). commandBy (cellIn l) (drop-cells (at + 1) cells)) (drop-cons cells at 0 h) ∙ sym (first-cell cells at h)

@@ -6,15 +6,16 @@ use mathlib.Core.List.{List}
 use mathlib.Core.Bool.{Bool, true, false}
 use Prim.Native.Nat.{ℕ}
 use lib.ListN.{drop}
+use Rattle.deciding.specs.Deciding.{pick}
 use Rattle.term.specs.Reading.{readTerm}
 use Rattle.commands.specs.Kinds.{Kind}
-use Rattle.commands.specs.Commands.{Command, pickCommand, commandWith, withTerm}
+use Rattle.commands.specs.Commands.{Command, commandWith, withTerm}
 use Rattle.commands.proofs.reader.term_at.Statement.{statement}
 use Rattle.commands.proofs.reader.term_at.Tie as tie
 
 module _ (k : Kind) (n : ℕ) (cells : List ℕ) (at : ℕ) where
   abbrev read : Bool → Command
-  read term = pickCommand term (withTerm k n (readTerm (drop at cells))) (commandWith k n 0 0)
+  read term = pick term (withTerm k n (readTerm (drop at cells))) (commandWith k n 0 0)
 
   none : k .term ≡ false → commandWith k n 0 0 ≡ read (k .term)
   none e = ap read (sym e)

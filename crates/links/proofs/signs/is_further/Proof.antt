@@ -1,8 +1,8 @@
 -- Each test that fails is a way out with nothing promised; past them all that is promised has been read
 use mathlib.Core.Path.{refl}
-use Rattle.term.specs.Counting.{true≢false}
 use Rattle.links.proofs.Leaping.{looked-at}
 use borrow.Author.Needs.{needs}
+use Rattle.deciding.specs.Deciding.{true≢false}
 use Rattle.links.proofs.signs.is_further.Statement.{statement}
 use Rattle.links.proofs.signs.is_further.Tie as tie
 

@@ -9,21 +9,21 @@ use lib.ListN.{length, getD}
 use Rattle.layout.specs.Layout.{linksAt, lastLink, bookWords}
 use Rattle.links.specs.Words.{cellOf}
 use Rattle.book.specs.Memory.{view}
-use Rattle.questions.specs.Promises.{start, Begins, Threaded}
+use Rattle.questions.specs.Promises.{start, LeapsTo, Threaded}
 use Rattle.questions.proofs.Threads.{in-tree}
 use Rattle.questions.proofs.Leaps.{leaps, up-to-it}
 use Rattle.questions.proofs.seeking.leap.Statement.{statement}
 use Rattle.questions.proofs.seeking.leap.Tie as tie
 use Rattle.links.specs.Siblings.{Further}
 
-here : (ws : List ℕ) (cell link : ℕ) → Threaded ws link → Begins ws cell link link
+here : (ws : List ℕ) (cell link : ℕ) → Threaded ws link → LeapsTo ws cell link link
 here ws cell link t = record { threaded = t; by = start }
 
 low : (c : tie.Else2) → (c .before .before .before .args .link ≤ lastLink) × (length (c .before .before .before .args .m .now) ≡ bookWords)
 low c = let s = c .before .before .before in (in-tree (s .args .m .now) (s .args .link) (s .pre) (c .before .if1 .left), s .pre .passing .size)
 
-springs : (ws : List ℕ) (cell link r : ℕ) → Threaded ws link → ¬ (link ≡ 0) → ((i : ℕ) → getD ws i 0 < 2 ^ 64) → cell < 32768 → (r ≡ link) ⊎ Further (view ws .tree) (getD ws (linksAt + link) 0) cell r → Begins ws cell link r
-springs ws cell link r t n all l (inl e) = subst (Begins ws cell link) (sym e) (here ws cell link t)
+springs : (ws : List ℕ) (cell link r : ℕ) → Threaded ws link → ¬ (link ≡ 0) → ((i : ℕ) → getD ws i 0 < 2 ^ 64) → cell < 32768 → (r ≡ link) ⊎ Further (view ws .tree) (getD ws (linksAt + link) 0) cell r → LeapsTo ws cell link r
+springs ws cell link r t n all l (inl e) = subst (LeapsTo ws cell link) (sym e) (here ws cell link t)
 springs ws cell link r t n all l (inr f) = let g = leaps ws cell link link cell r t n all (cellOf (getD ws (linksAt + link) 0)) refl (up-to-it cell (cellOf (getD ws (linksAt + link) 0)) l) f start in record { threaded = g .threaded; by = g .by }
 
 returns-5 : tie.Need-returns-5
