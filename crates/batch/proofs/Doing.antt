@@ -102,7 +102,8 @@ module _ (ws ws′ : List ℕ) (k : ℕ) (a : Removed) (x : Removes ws ws′ k a
   }
   removed nothing e = record { passes = x .passes; rules-are = x .rules; along = still ws ws′ (x .same (x .answer ∙ ap removal e)) }
 
-  pub remove-done : (refusal : ℕ) (out out′ : List ℕ) (n : ℕ) → 0 < length out → refusal ≡ removeRefusal a → Writes (bare refusal) out out′ n → Does (removes (rulesIn ws) k) ws ws′ out out′ n
+  pub remove-done : (refusal : ℕ) (out out′ : List ℕ) (n : ℕ) → 0 < length out → refusal ≡ removeRefusal a → Writes (bare refusal) out out′ n
+      → Does (removes (rulesIn ws) k) ws ws′ out out′ n
   remove-done refusal out out′ n h e w = record {
     writes = subst (λ (j : ℕ). Writes (bare j) out out′ n) (e ∙ ap removeRefusal (x .answer)) w;
     fits = λ _. removed (rulesIn ws k) refl;
@@ -167,10 +168,12 @@ module _ (ws ws′ out out′ behind : List ℕ) (n : ℕ) (command : Command) w
   abbrev Done : Effect → Type 0
   Done e = Does e ws ws′ out out′ n
 
-  pub done : (act : Act) (term : List ℕ) → command .stop ≡ 0 → command .act ≡ act → term ≡ take (command .size) behind → Done (acts act (rulesIn ws) (command .number) term) → Done (does (rulesIn ws) behind command)
+  pub done : (act : Act) (term : List ℕ) → command .stop ≡ 0 → command .act ≡ act → term ≡ take (command .size) behind
+      → Done (acts act (rulesIn ws) (command .number) term) → Done (does (rulesIn ws) behind command)
   done act term z q e d =
       subst Done (sym (does-act (rulesIn ws) behind command z))
-      (subst (λ (x : List ℕ). Done (acts (command .act) (rulesIn ws) (command .number) x)) e (subst (λ (a : Act). Done (acts a (rulesIn ws) (command .number) term)) (sym q) d))
+      (subst (λ (x : List ℕ). Done (acts (command .act) (rulesIn ws) (command .number) x)) e
+      (subst (λ (a : Act). Done (acts a (rulesIn ws) (command .number) term)) (sym q) d))
 
   pub stopped : ¬ (command .stop ≡ 0) → Done (tells (bare (command .stop)) (rulesIn ws)) → Done (does (rulesIn ws) behind command)
   stopped z d = subst Done (sym (does-stop (rulesIn ws) behind command z)) d

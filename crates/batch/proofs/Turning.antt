@@ -26,7 +26,8 @@ becomes ws ws₁ ws′ rules rules′ cs ds a b = record { passes = b .passes; r
 
 pub all-used : (ws out : List ℕ) → Passing ws → Ran ws ws [] out out 0 0 0
 unfolding written
-all-used ws out p = subst (λ (o : Outcome). Came o ws ws out out 0 0 0) (sym (run-none (rulesIn ws) (length out))) (record { stop-is = refl; used-is = refl; written-is = refl; output = refl; book = stays ws p })
+all-used ws out p = subst (λ (o : Outcome). Came o ws ws out out 0 0 0) (sym (run-none (rulesIn ws) (length out)))
+    (record { stop-is = refl; used-is = refl; written-is = refl; output = refl; book = stays ws p })
 
 -- ---- one command
 
@@ -58,7 +59,14 @@ module _ (ws ws₁ behind out out₁ : List ℕ) (c n : ℕ) where
     no-room p z =
         let l = short z in
         subst (λ (o : Outcome). Came o ws ws₁ out out₁ 10 0 0) (sym (run-10 (rulesIn ws) c behind (length out) l))
-        (record { stop-is = refl; used-is = refl; written-is = refl; output = done .writes .short l .1; book = subst (λ (z : List ℕ). Becomes ws z (rulesIn ws) []) (sym (done .short l)) (stays ws p) })
+        (record {
+          stop-is = refl;
+          used-is = refl;
+          written-is = refl;
+          output = done .writes .short l .1;
+          book = subst
+              (λ (z : List ℕ). Becomes ws z (rulesIn ws) []) (sym (done .short l)) (stays ws p);
+        })
 
     -- there is room
     module _ (z : ¬ (n ≡ 0)) where
@@ -93,13 +101,16 @@ module _ (ws ws₁ behind out out₁ : List ℕ) (c n : ℕ) where
         stop-is = x .stop-is;
         used-is = ap (λ (j : ℕ). suc (command .size) + j) (x .used-is);
         written-is = ap₂ (λ (a b : ℕ). a + b) (sym wide) (x .written-is) ∙ sym (length-append (cellsOf (e .answer)) (written (o .records)));
-        output = ap₂ (λ (a b : List ℕ). a ++ b) front (x .output ∙ ap (λ (l : List ℕ). written (o .records) ++ l) (ap (drop k) back ∙ drop-drop k n out)) ∙ sym (append-assoc (cellsOf (e .answer)) (written (o .records)) (drop (n + k) out));
+        output = ap₂ (λ (a b : List ℕ). a ++ b) front
+            (x .output ∙ ap (λ (l : List ℕ). written (o .records) ++ l) (ap (drop k) back ∙ drop-drop k n out))
+            ∙ sym (append-assoc (cellsOf (e .answer)) (written (o .records)) (drop (n + k) out));
         book = becomes ws ws₁ ws′ (e .rules) (o .rules) (e .changes) (o .changes) (done .fits (fits z)) (x .book);
       }
 
       pub goes-on : command .stop ≡ 0 → (ws′ part : List ℕ) (stop used k : ℕ) → Ran ws₁ ws′ (drop (command .size) behind) (drop n out₁) part stop used k
           → Ran ws ws′ (c ∷ behind) out (take n out₁ ++ part) stop (suc (command .size) + used) (n + k)
-      goes-on s ws′ part stop used k x = subst (λ (o : Outcome). Came o ws ws′ out (take n out₁ ++ part) stop (suc (command .size) + used) (n + k)) (sym is) (came _ ws′ part stop used k x)
+      goes-on s ws′ part stop used k x = subst (λ (o : Outcome). Came o ws ws′ out (take n out₁ ++ part) stop (suc (command .size) + used) (n + k))
+          (sym is) (came _ ws′ part stop used k x)
         where
           is : run (rulesIn ws) (c ∷ behind) (length out) ≡ goesOn (suc (command .size)) e (run (rulesIn ws₁) (drop (command .size) behind) (length (drop n out₁)))
           is =

@@ -28,7 +28,14 @@ endsWith stop e = record { stop = stop; used = 0; records = e .answer ∷ []; ru
 
 -- A command of so many cells was done, and then the others.
 abbrev pub goesOn : ℕ → Effect → Outcome → Outcome
-goesOn size e rest = record { stop = rest .stop; used = size + rest .used; records = e .answer ∷ rest .records; rules = rest .rules; changes = e .changes ++ rest .changes }
+goesOn size e rest = record {
+  stop = rest .stop;
+  used = size + rest .used;
+  records = e .answer ∷ rest .records;
+  rules = rest .rules;
+  changes =
+      e .changes ++ rest .changes;
+}
 
 -- One command with its effect, where there is room for so many cells. 10 replaces any record that does not fit.
 abbrev pub oneOf : Rules → ℕ → Command → Effect → Outcome → Outcome

@@ -59,7 +59,8 @@ module _ (ws ws′ : List ℕ) (n : ℕ) (l : n < 4096) (s : NumberSet ws) (same
   -- from what became of its own bit, of its word's bit in the head, of the other bits of its word, and of all other words
   puts : getD (bits ws′) n 0 ≡ 1 → counts ws′ (n / 64) ≡ true → ((k : ℕ) → k / 64 ≡ n / 64 → ¬ (k ≡ n) → eqb (getD (bits ws′) k 0) 1 ≡ has ws k)
       → ((k : ℕ) → k < 4160 → ¬ (k / 64 ≡ n / 64) → ¬ (k ≡ 4096 + n / 64) → getD (bits ws′) k 0 ≡ getD (bits ws) k 0) → PutsNumber ws ws′ n
-  puts own head word else = record { is-set = record { size = long; some = λ q h c. some q h c (ℕ-discrete q (n / 64)) }; here = here; other = λ k d. other k d (decLt k 4096) }
+  puts own head word else = record
+      { is-set = record { size = long; some = λ q h c. some q h c (ℕ-discrete q (n / 64)) }; here = here; other = λ k d. other k d (decLt k 4096) }
     where
       here : has ws′ n ≡ true
       here = ap₂ (λ (b : Bool) (x : ℕ). b && eqb x 1) head own
@@ -91,9 +92,12 @@ module _ (ws ws′ : List ℕ) (n : ℕ) (l : n < 4096) (s : NumberSet ws) (same
       inside = omega (arith, length-bits ws, s .size)
 
   -- it does not: the word is cleared, and marked in the head
-  pub put-first : counts ws (n / 64) ≡ false → (vs : List ℕ) → bits vs ≡ set (bits (set ws (n / 64) 0)) (4096 + n / 64) 1 → bits ws′ ≡ set (bits vs) n 1 → length vs ≡ 65 → PutsNumber ws ws′ n
-  put-first c vs f e lv = puts (marked-here vs ws′ n inside e) (ap (λ (x : ℕ). eqb x 1) (marked-other vs ws′ n inside e (4096 + n / 64) (omega arith) ∙ marked-here (set ws (n / 64) 0) vs (4096 + n / 64) head-in f))
-      (λ k g d. ap (λ (x : ℕ). eqb x 1) (back k (omega arith) d ∙ cleared ws (n / 64) word-in k g) ∙ sym (ap (λ (b : Bool). b && eqb (getD (bits ws) k 0) 1) (ap (counts ws) g ∙ c)))
+  pub put-first : counts ws (n / 64) ≡ false → (vs : List ℕ) → bits vs ≡ set (bits (set ws (n / 64) 0)) (4096 + n / 64) 1
+      → bits ws′ ≡ set (bits vs) n 1 → length vs ≡ 65 → PutsNumber ws ws′ n
+  put-first c vs f e lv = puts (marked-here vs ws′ n inside e)
+      (ap (λ (x : ℕ). eqb x 1) (marked-other vs ws′ n inside e (4096 + n / 64) (omega arith) ∙ marked-here (set ws (n / 64) 0) vs (4096 + n / 64) head-in f))
+      (λ k g d. ap (λ (x : ℕ). eqb x 1) (back k (omega arith) d ∙ cleared ws (n / 64) word-in k g)
+      ∙ sym (ap (λ (b : Bool). b && eqb (getD (bits ws) k 0) 1) (ap (counts ws) g ∙ c)))
       (λ k h d g. back k g (λ z. d (ap (λ (x : ℕ). x / 64) z)) ∙ uncleared ws (n / 64) word-in k d)
     where
       word-in : n / 64 < length ws
@@ -117,14 +121,16 @@ module _ (ws : List ℕ) (q from : ℕ) (h : q < 64) (l : from < 64) where
     after = omega (arith, f .after);
     within = omega (arith, f .within, length-parts 1 64 (getD ws q 0));
     before = λ k a b. ap (λ (x : Bool). counts ws (k / 64) && x) (ne-eqb (getD (bits ws) k 0) 1 (clear k a b)) ∙ and-false (counts ws (k / 64));
-    here = λ b. ap₂ (λ (x y : Bool). x && y) (ap (counts ws) (let e : (q * 64 + r) / 64 ≡ q = omega arith in e) ∙ c) (eq-eqb (getD (bits ws) (q * 64 + r) 0) 1 (at-word 1 64 ws q r (omega arith) ∙ f .here (omega (arith, length-parts 1 64 (getD ws q 0)))));
+    here = λ b. ap₂ (λ (x y : Bool). x && y) (ap (counts ws) (let e : (q * 64 + r) / 64 ≡ q = omega arith in e) ∙ c)
+        (eq-eqb (getD (bits ws) (q * 64 + r) 0) 1 (at-word 1 64 ws q r (omega arith) ∙ f .here (omega (arith, length-parts 1 64 (getD ws q 0)))));
   }
     where
       clear : (k : ℕ) → q * 64 + from ≤ k → k < q * 64 + r → getD (bits ws) k 0 ≡ 1 → ⊥
       clear k a b z =
           let i : ℕ = k - q * 64 in
           let is : q * 64 + i ≡ k = omega arith in
-          f .before i (omega arith) (omega arith) (sym (at-word 1 64 ws q i (omega (arith, f .within, length-parts 1 64 (getD ws q 0)))) ∙ ap (λ (x : ℕ). getD (bits ws) x 0) is ∙ z)
+          f .before i (omega arith) (omega arith)
+          (sym (at-word 1 64 ws q i (omega (arith, f .within, length-parts 1 64 (getD ws q 0)))) ∙ ap (λ (x : ℕ). getD (bits ws) x 0) is ∙ z)
 
   -- one that does not
   pub no-word : counts ws q ≡ false → NextNumber ws (q * 64 + from) (q * 64 + 64) (q * 64 + 64)
@@ -164,7 +170,13 @@ module _ (ws : List ℕ) (s : NumberSet ws) (from q r : ℕ) (at : from / 64 ≡
 
     -- and the word to which it leads has one
     pub in-next : i < 64 → (t : ℕ) → NextNumber ws (i * 64 + 0) (i * 64 + 64) (i * 64 + t) → NextNumber ws from 4096 (i * 64 + t)
-    in-next c t m = record { after = omega (arith, f .after); within = omega (arith, m .within); before = λ k a b. go k a b (decLt k (i * 64)); here = λ b. m .here in-it }
+    in-next c t m = record {
+      after = omega (arith, f .after);
+      within = omega (arith, m .within);
+      before = λ k a b. go k a b (decLt k (i * 64));
+      here =
+          λ b. m .here in-it;
+    }
       where
         on : counts ws i ≡ true
         on = eq-eqb (getD (bits ws) (4096 + i) 0) 1 (head-is i c ∙ f .here (omega (arith, length-parts 1 64 (getD ws 64 0))))
@@ -199,7 +211,8 @@ module _ (ws : List ℕ) (s : NumberSet ws) (n rest : ℕ) (h : n < 4096) (m : M
   -- nothing is left in the word
   word-done : (rest * 2 ^ 1) % 2 ^ 64 ≡ 0 → (k : ℕ) → n + 1 ≤ k → k < n / 64 * 64 + 64 → has ws k ≡ false
   word-done z k a b =
-      of-word ws (n / 64) (n % 64 + 1) (omega arith) (omega arith) on 64 (none-left (getD ws (n / 64) 0) (n % 64 + 1) (omega arith) (sym behind ∙ z)) .before k (omega arith) b
+      of-word ws (n / 64) (n % 64 + 1) (omega arith) (omega arith) on 64
+      (none-left (getD ws (n / 64) 0) (n % 64 + 1) (omega arith) (sym behind ∙ z)) .before k (omega arith) b
 
   pub word-goes : (at r : ℕ) → (rest * 2 ^ 1) % 2 ^ 64 ≡ 0 → NextAndRest ws (n / 64 * 64 + 64) at r → NextAndRest ws (n + 1) at r
   word-goes at r z f = record {
@@ -235,8 +248,10 @@ module _ (ws : List ℕ) (s : NumberSet ws) (n rest : ℕ) (h : n < 4096) (m : M
 
     pub word-more : (z : ℕ) → z ≡ leadingZeros 64 ((rest * 2 ^ 1) % 2 ^ 64) → NextAndRest ws (n + 1) (n + 1 + z) (((rest * 2 ^ 1) % 2 ^ 64 * 2 ^ z) % 2 ^ 64)
     word-more z ez = record {
-      first = subst (λ (x : ℕ). NextNumber ws (n + 1) 4096 x) there (in-this ws s (n + 1) (n / 64) r (let q = inner in omega arith) (let q = inner in omega arith) this low);
-      left = λ b. ap (λ (x : ℕ). (x * 2 ^ z) % 2 ^ 64) behind ∙ shift-twice (getD ws (n / 64) 0) (n % 64 + 1) z ∙ ap₂ (λ (q t : ℕ). (getD ws q 0 * 2 ^ t) % 2 ^ 64) same-word same-bit;
+      first = subst (λ (x : ℕ). NextNumber ws (n + 1) 4096 x) there
+          (in-this ws s (n + 1) (n / 64) r (let q = inner in omega arith) (let q = inner in omega arith) this low);
+      left = λ b. ap (λ (x : ℕ). (x * 2 ^ z) % 2 ^ 64) behind ∙ shift-twice (getD ws (n / 64) 0) (n % 64 + 1) z
+          ∙ ap₂ (λ (q t : ℕ). (getD ws q 0 * 2 ^ t) % 2 ^ 64) same-word same-bit;
     }
       where
         -- the bit of the word
@@ -251,7 +266,8 @@ module _ (ws : List ℕ) (s : NumberSet ws) (n rest : ℕ) (h : n < 4096) (m : M
 
         this : NextNumber ws (n + 1) (n / 64 * 64 + 64) (n / 64 * 64 + r)
         this = let q : n / 64 * 64 + (n % 64 + 1) ≡ n + 1 = omega arith in
-            subst (λ (x : ℕ). NextNumber ws x (n / 64 * 64 + 64) (n / 64 * 64 + r)) q (of-word ws (n / 64) (n % 64 + 1) (omega arith) inner on r (one-left (getD ws (n / 64) 0) (n % 64 + 1) inner more))
+            subst (λ (x : ℕ). NextNumber ws x (n / 64 * 64 + 64) (n / 64 * 64 + r)) q
+            (of-word ws (n / 64) (n % 64 + 1) (omega arith) inner on r (one-left (getD ws (n / 64) 0) (n % 64 + 1) inner more))
 
         there : n / 64 * 64 + r ≡ n + 1 + z
         there = let q = is in omega arith

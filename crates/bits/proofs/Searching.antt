@@ -156,7 +156,8 @@ first-clear w s r b f = record {
   within = omega (arith, f .within, length-parts 1 64 w, length-parts 1 64 ((2 ^ 64 - 1) - w));
   before = λ k a c e. f .before k a c (let q = flipped w k b (omega (arith, f .within, length-parts 1 64 ((2 ^ 64 - 1) - w))) in omega arith);
   here =
-      λ c. let q = flipped w r b (omega (arith, length-parts 1 64 w)) in omega (arith, f .here (omega (arith, length-parts 1 64 w, length-parts 1 64 ((2 ^ 64 - 1) - w))));
+      λ c. let q = flipped w r b (omega (arith, length-parts 1 64 w)) in omega
+      (arith, f .here (omega (arith, length-parts 1 64 w, length-parts 1 64 ((2 ^ 64 - 1) - w))));
 }
 
 -- ---- all words: the search has come to bit s of word q, the bit n of all, and r is what the word gives

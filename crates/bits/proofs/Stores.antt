@@ -133,7 +133,8 @@ write-put k s w v l h f =
 mark-put : (s w : ℕ) → s < 64 → Put 1 s w 1 (bitOr w ((1 * 2 ^ s) % 2 ^ 64))
 mark-put s w h =
     subst (λ (y : ℕ). Put 1 s w 1 (bitOr w y)) (sym (shl-exact 1 s 64 (omega arith) (omega arith)))
-    (or-put 1 s w w (w / 2 ^ s % 2 ^ 1) 1 1 (omega arith) (or-one (w / 2 ^ s % 2) (mod-lt (w / 2 ^ s) (omega arith))) (record { lower = refl; here = refl; upper = refl }))
+    (or-put 1 s w w (w / 2 ^ s % 2 ^ 1) 1 1 (omega arith) (or-one (w / 2 ^ s % 2) (mod-lt (w / 2 ^ s) (omega arith)))
+    (record { lower = refl; here = refl; upper = refl }))
 
 -- ---- the stores of the code
 
@@ -151,7 +152,8 @@ module _ (ws : List ℕ) (n : ℕ) (h : n < 64 * length ws) where
   put-bit v w′ p =
       let at : n / 64 * 64 + n % 64 ≡ n = omega arith in
       set-word 1 64 ws (n / 64) (n % 64) v w′ (omega arith) (omega arith)
-      (set-parts 1 (63 - n % 64) (getD ws (n / 64) 0) v w′ (subst (λ (s : ℕ). Put 1 s (getD ws (n / 64) 0) v w′) (sym (mul-one (63 - n % 64))) p) 64 (n % 64) (omega arith))
+      (set-parts 1 (63 - n % 64) (getD ws (n / 64) 0) v w′ (subst (λ (s : ℕ). Put 1 s (getD ws (n / 64) 0) v w′) (sym (mul-one (63 - n % 64))) p) 64
+      (n % 64) (omega arith))
       ∙ ap (λ (x : ℕ). set (bits ws) x v) at
 
   pub mark-bit : bits (set ws (n / 64) (bitOr (getD ws (n / 64) 0) ((1 * 2 ^ (63 - n % 64)) % 2 ^ 64))) ≡ set (bits ws) n 1

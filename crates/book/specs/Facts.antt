@@ -46,7 +46,11 @@ module _ where
   pub empty-passes : Passing (replicate bookWords 0)
   empty-passes = record {
     size = length-replicate {A = ℕ} bookWords 0;
-    right = record { records = λ r u. absurd (true≢false u (none .0 (nodesLimit + r))); tree = subst (λ xs. Passes (view zeros .tree) (ends xs)) (sym no-leaves) (none .1) };
+    right = record {
+      records = λ r u. absurd (true≢false u (none .0 (nodesLimit + r)));
+      tree = subst (λ xs. Passes (view zeros .tree) (ends xs))
+          (sym no-leaves) (none .1);
+    };
   }
 
   pub empty-rules : rulesIn (replicate bookWords 0) ≡ noRules
@@ -54,7 +58,8 @@ module _ where
     where
       not-held : (k : ℕ) → heldAt (view zeros) k ≡ false
       not-held k =
-          ap (λ (b : Bool). both (ltb (view zeros .place k) rulesLimit) (both b (eqb (number (view zeros) (view zeros .place k)) k))) (none .0 (nodesLimit + view zeros .place k))
+          ap (λ (b : Bool). both (ltb (view zeros .place k) rulesLimit) (both b (eqb (number (view zeros) (view zeros .place k)) k)))
+          (none .0 (nodesLimit + view zeros .place k))
           ∙ both-false (ltb (view zeros .place k) rulesLimit)
 
 -- ---- one set of rules, within the limits
@@ -128,7 +133,8 @@ empties-once ws a b r s x y = go (ℕ-discrete (length ws) bookWords)
 -- ---- the set of rules alone
 
 module _ (ws vs : List ℕ) (same : rulesIn ws ≡ rulesIn vs) where
-  pub shows-alike : (k : ℕ) (held held′ : Bool) (size size′ : ℕ) (cells cells′ : List ℕ) → Shows ws k held size cells → Shows vs k held′ size′ cells′ → (held ≡ held′) × (size ≡ size′) × (cells ≡ cells′)
+  pub shows-alike : (k : ℕ) (held held′ : Bool) (size size′ : ℕ) (cells cells′ : List ℕ) → Shows ws k held size cells → Shows vs k held′ size′ cells′
+      → (held ≡ held′) × (size ≡ size′) × (cells ≡ cells′)
   shows-alike k held held′ size size′ cells cells′ x y = (
     x .is-held ∙ ap (λ (z : Rules). isHeld (z k)) same ∙ sym (y .is-held),
     x .sized ∙ ap (λ (z : Rules). shownSize (z k)) same ∙ sym (y .sized),

@@ -64,7 +64,8 @@ fours-are t i a b c d ha hb hc hd ea eb ec ed (suc (suc (suc zero))) l =
 fours-are t i a b c d ha hb hc hd ea eb ec ed (suc (suc (suc (suc j)))) l = absurd (omega arith)
 
 -- one word more is written
-pub filled-four : (t ws : List ℕ) (i w : ℕ) → i < length ws → Fours t (4 * i) w → Filled (fields ws) (4 * i) (λ k. getD t k 0) → Filled (fields (set ws i w)) (4 * (i + 1)) (λ k. getD t k 0)
+pub filled-four : (t ws : List ℕ) (i w : ℕ) → i < length ws → Fours t (4 * i) w → Filled (fields ws) (4 * i) (λ k. getD t k 0)
+    → Filled (fields (set ws i w)) (4 * (i + 1)) (λ k. getD t k 0)
 filled-four t ws i w h e f k b = at (set ws i w) ∙ go (ℕ-discrete (k / 4) i)
   where
     whole : k / 4 * 4 + k % 4 ≡ k
@@ -93,7 +94,8 @@ padded t n k = go (decLt k (length t))
     go (yes h) = sym (List·getD-append t (replicate n 0) 0 k h)
     go (no h) =
         let e : k ≡ length t + (k - length t) = omega arith in
-        List·getD-eq-default t 0 (omega arith) ∙ sym (ap (λ (z : ℕ). getD (t ++ replicate n 0) z 0) e ∙ getD-append-add t (replicate n 0) (k - length t) 0 ∙ zeros-are n (k - length t))
+        List·getD-eq-default t 0 (omega arith)
+        ∙ sym (ap (λ (z : ℕ). getD (t ++ replicate n 0) z 0) e ∙ getD-append-add t (replicate n 0) (k - length t) 0 ∙ zeros-are n (k - length t))
 
 pub padded-long : (t : List ℕ) → length t ≤ 32 → length (t ++ replicate (32 - length t) 0) ≡ 32
 padded-long t h = length-append t (replicate (32 - length t) 0) ∙ omega (arith, length-replicate {A = ℕ} (32 - length t) 0)
@@ -107,7 +109,8 @@ get-map f (c ∷ t) (suc k) h = get-map f t k (omega arith)
 pub rowed : (cells row : List ℕ) (size n : ℕ) → size ≤ length cells → length row ≡ 33 → size ≤ 32
     → Filled row size (λ k. blankNumber (getD cells k 0)) → ((k : ℕ) → size ≤ k → k < 33 → getD row k 0 ≡ n)
     → take (size + 1) row ≡ formOf (take size cells) ++ (n ∷ [])
-rowed cells row size n h e s f g = ext-getD 0 (take (size + 1) row) (formOf (take size cells) ++ (n ∷ [])) long (λ k b. getD-take (size + 1) row k 0 (below k b) ∙ go k b (decLt k size))
+rowed cells row size n h e s f g = ext-getD 0 (take (size + 1) row) (formOf (take size cells) ++ (n ∷ [])) long
+    (λ k b. getD-take (size + 1) row k 0 (below k b) ∙ go k b (decLt k size))
   where
     form-long : length (formOf (take size cells)) ≡ size
     form-long = length-map (take size cells) blankNumber ∙ omega (arith, length-take size cells)
@@ -125,7 +128,8 @@ rowed cells row size n h e s f g = ext-getD 0 (take (size + 1) row) (formOf (tak
     go k b (no l) =
         let q : k ≡ size = let z = below k b in omega arith in
         let w : k ≡ length (formOf (take size cells)) + 0 = omega (arith, form-long) in
-        g k (omega arith) (let z = below k b in omega arith) ∙ sym (ap (λ (z : ℕ). getD (formOf (take size cells) ++ (n ∷ [])) z 0) w ∙ getD-append-add (formOf (take size cells)) (n ∷ []) 0 0)
+        g k (omega arith) (let z = below k b in omega arith)
+        ∙ sym (ap (λ (z : ℕ). getD (formOf (take size cells) ++ (n ∷ [])) z 0) w ∙ getD-append-add (formOf (take size cells)) (n ∷ []) 0 0)
 
 -- ---- four cells at a time, and zeros behind them
 
@@ -151,7 +155,8 @@ loading-more ws cells i a b c d f h ea eb ec ed = record {
   step = let s = f .step in omega arith;
   low = omega arith;
   filled = λ k l. four k (omega arith);
-  rest = λ k l. getD-set-other (set (set (set cells i a) (i + 1) b) (i + 2) c) (i + 3) k d 0 (λ e. omega arith) ∙ getD-set-other (set (set cells i a) (i + 1) b) (i + 2) k c 0 (λ e. omega arith)
+  rest = λ k l. getD-set-other (set (set (set cells i a) (i + 1) b) (i + 2) c) (i + 3) k d 0 (λ e. omega arith)
+      ∙ getD-set-other (set (set cells i a) (i + 1) b) (i + 2) k c 0 (λ e. omega arith)
       ∙ getD-set-other (set cells i a) (i + 1) k b 0 (λ e. omega arith) ∙ getD-set-other cells i k a 0 (λ e. omega arith) ∙ f .rest k (omega arith);
 }
   where
@@ -168,10 +173,12 @@ loading-more ws cells i a b c d f h ea eb ec ed = record {
     two = filled-more (set cells i a) _ (i + 1) b (λ k. getD (fields ws) k 0) (inside (set cells i a) (i + 1) (simp length-set) (omega arith)) refl eb one
 
     three : Filled (set (set (set cells i a) (i + 1) b) (i + 2) c) (i + 2 + 1) (λ k. getD (fields ws) k 0)
-    three = filled-more (set (set cells i a) (i + 1) b) _ (i + 2) c (λ k. getD (fields ws) k 0) (inside (set (set cells i a) (i + 1) b) (i + 2) (simp length-set) (omega arith)) refl ec (λ k l. two k (omega arith))
+    three = filled-more (set (set cells i a) (i + 1) b) _ (i + 2) c (λ k. getD (fields ws) k 0)
+        (inside (set (set cells i a) (i + 1) b) (i + 2) (simp length-set) (omega arith)) refl ec (λ k l. two k (omega arith))
 
     four : Filled (set (set (set (set cells i a) (i + 1) b) (i + 2) c) (i + 3) d) (i + 3 + 1) (λ k. getD (fields ws) k 0)
-    four = filled-more (set (set (set cells i a) (i + 1) b) (i + 2) c) _ (i + 3) d (λ k. getD (fields ws) k 0) (inside (set (set (set cells i a) (i + 1) b) (i + 2) c) (i + 3) (simp length-set) (omega arith)) refl ed (λ k l. three k (omega arith))
+    four = filled-more (set (set (set cells i a) (i + 1) b) (i + 2) c) _ (i + 3) d (λ k. getD (fields ws) k 0)
+        (inside (set (set (set cells i a) (i + 1) b) (i + 2) c) (i + 3) (simp length-set) (omega arith)) refl ed (λ k l. three k (omega arith))
 
 pub loaded : (ws cells : List ℕ) (i size : ℕ) → length ws ≡ termWords → Zeros (fields ws) size → size ≤ i → Loading ws cells i → cells ≡ fields ws
 loaded ws cells i size e z h f = ext-getD 0 cells (fields ws) (let n = f .long in omega (arith, fields-long ws)) (λ k b. go k (decLt k i))

@@ -49,7 +49,8 @@ map-nil f (x ∷ a) e = absurd (let z : _≡_ {A = ℕ} 0 1 = cc in omega arith)
 pub form-free : (a b : List ℕ) → Terms 1 (blankForm a) → Terms 1 (blankForm b) → (s : List ℕ) → formOf a ++ s ≡ formOf b → s ≡ []
 form-free a b wa wb s e =
     let rows : blankForm a ++ map blankOf s ≡ blankForm b ++ [] =
-    ap (λ (z : Row Blank). z ++ map blankOf s) (sym (form-row a)) ∙ sym (map-append blankOf (formOf a) s) ∙ ap (map blankOf) e ∙ form-row b ∙ sym (append-nil (blankForm b)) in
+    ap (λ (z : Row Blank). z ++ map blankOf s) (sym (form-row a)) ∙ sym (map-append blankOf (formOf a) s) ∙ ap (map blankOf) e ∙ form-row b
+    ∙ sym (append-nil (blankForm b)) in
     map-nil blankOf s (same-rest wa wb rows)
 
 -- two numbers are the same cell of a blank form

@@ -31,7 +31,8 @@ module _ {A : Type 0} (f : ℕ → List A) where
     where
       go : Dec (g .at ≡ k) → (Gathered n (suc k) x → List·Memᴰ x (each f n (suc k))) → List·Memᴰ x (each f (suc n) k)
       go (yes e) ih = Memᴰ·append-left (each f n (suc k)) (subst (λ j. List·Memᴰ x (f j)) e (g .among))
-      go (no e) ih = Memᴰ·append-right (f k) (ih (record { at = g .at; from = (let a = g .from in omega arith); below = (let b = g .below in omega arith); among = g .among }))
+      go (no e) ih = Memᴰ·append-right (f k)
+          (ih (record { at = g .at; from = (let a = g .from in omega arith); below = (let b = g .below in omega arith); among = g .among }))
 
 pub each-same : {A : Type 0} (f g : ℕ → List A) (n k : ℕ) → ((j : ℕ) → k ≤ j → j < k + n → f j ≡ g j) → each f n k ≡ each g n k
 unfolding each
@@ -82,5 +83,11 @@ terms-standing rules t = (
       let h = term-held (rules (g .at)) (g .among) in
       record { number = g .at; low = (let b = g .below in omega arith); its = h .0; is = h .1; term-is = h .2 }),
   (λ s. to-each (λ k. termsOf (rules k)) ruleNumbers 0
-      (record { at = s .number; from = omega arith; below = (let l = s .low in omega arith); among = subst (λ h. List·Memᴰ t (termsOf h)) (sym (s .is)) (List·Memᴰ·head (sym (s .term-is))) })),
+      (record {
+        at = s .number;
+        from = omega arith;
+        below = (let l = s .low in omega arith);
+        among = subst (λ h. List·Memᴰ t (termsOf h))
+            (sym (s .is)) (List·Memᴰ·head (sym (s .term-is)));
+      })),
 )

@@ -129,7 +129,8 @@ module _ (v : View) (small : (n : ℕ) → Used (v .tree) n → n < lastLink) (r
       Memᴰ·cast (sym (a .has)) (Memᴰ·map (number v) (to-listed (taken v) rulesLimit (a .place) (a .used) (a .low))))
       (λ k i. let q = Memᴰ·of-map (number v) (listed (taken v) rulesLimit) i in
       let u = of-listed (taken v) rulesLimit (q .1) .0 in
-      to-listed (λ j. isHeld (rulesOf v j)) ruleNumbers k (ap (λ (z : ℕ). isHeld (rulesOf v z)) (sym (q .2)) ∙ ap isHeld (at-holds (q .0) u)) (subst (λ (z : ℕ). z < ruleNumbers) (q .2) (right .records (q .0) u .low)))
+      to-listed (λ j. isHeld (rulesOf v j)) ruleNumbers k (ap (λ (z : ℕ). isHeld (rulesOf v z)) (sym (q .2)) ∙ ap isHeld (at-holds (q .0) u))
+      (subst (λ (z : ℕ). z < ruleNumbers) (q .2) (right .records (q .0) u .low)))
       ∙ length-map (listed (taken v) rulesLimit) (number v) ∙ length-listed (taken v) rulesLimit
 
   -- the forms that hang are those of the rules

@@ -24,12 +24,21 @@ pub inside : (ws : List ℕ) (b n : ℕ) → b + n ≤ treeWords → take n (dro
 inside ws b n h = ext-getD 0 (take n (drop b (take treeWords ws))) (take n (drop b ws)) long same
   where
     long : length (take n (drop b (take treeWords ws))) ≡ length (take n (drop b ws))
-    long = omega (arith, length-take n (drop b (take treeWords ws)), length-drop b (take treeWords ws), length-take treeWords ws, length-take n (drop b ws), length-drop b ws)
+    long = omega (
+      arith,
+      length-take n (drop b (take treeWords ws)),
+      length-drop b (take treeWords ws),
+      length-take treeWords ws,
+      length-take n
+          (drop b ws),
+      length-drop b ws,
+    )
 
     same : (i : ℕ) → i < length (take n (drop b (take treeWords ws))) → getD (take n (drop b (take treeWords ws))) i 0 ≡ getD (take n (drop b ws)) i 0
     same i l =
         let k : i < n = omega (arith, length-take n (drop b (take treeWords ws))) in
-        getD-take n (drop b (take treeWords ws)) i 0 k ∙ getD-drop b (take treeWords ws) i 0 ∙ getD-take treeWords ws (b + i) 0 (omega arith) ∙ sym (getD-take n (drop b ws) i 0 k ∙ getD-drop b ws i 0)
+        getD-take n (drop b (take treeWords ws)) i 0 k ∙ getD-drop b (take treeWords ws) i 0 ∙ getD-take treeWords ws (b + i) 0 (omega arith)
+        ∙ sym (getD-take n (drop b ws) i 0 k ∙ getD-drop b ws i 0)
 
 pub rule-taken : (ws : List ℕ) (r : ℕ) → r < rulesLimit → eqb (getD (bits (take ruleMapWords (drop ruleMapAt ws))) r 0) 1 ≡ taken (view ws) r
 rule-taken ws r h = ap (λ (m : List ℕ). marked m r) (sym (inside ws ruleMapAt ruleMapWords (omega arith))) ∙ rule-bit (take treeWords ws) r h
@@ -56,7 +65,8 @@ module _ (ws : List ℕ) (k : ℕ) where
   picks a b c e f g = ap (λ (x : Bool). pick x (view ws .place k) rulesLimit) (ap₂ both e (ap₂ both f g))
 
   pub too-high : (r : ℕ) → r ≡ view ws .place k → rulesLimit ≤ r → rulesLimit ≡ placeOf (view ws) k
-  too-high r e h = sym (picks false (taken (view ws) (view ws .place k)) (eqb (number (view ws) (view ws .place k)) k) (le-ltb (view ws .place k) rulesLimit (subst (λ (z : ℕ). rulesLimit ≤ z) e h)) refl refl)
+  too-high r e h = sym (picks false (taken (view ws) (view ws .place k)) (eqb (number (view ws) (view ws .place k)) k)
+      (le-ltb (view ws .place k) rulesLimit (subst (λ (z : ℕ). rulesLimit ≤ z) e h)) refl refl)
 
   module _ (r : ℕ) (e : r ≡ view ws .place k) (h : r < rulesLimit) where
     low : ltb (view ws .place k) rulesLimit ≡ true
@@ -75,11 +85,13 @@ module _ (ws : List ℕ) (k : ℕ) where
         → (c : ℕ) → c ≡ cellOf (getD ws (rulesAt + r) 0) → ¬ (c ≡ k) → rulesLimit ≡ placeOf (view ws) k
     other-number b f q c g n = sym (picks true true false low (is-taken b f ∙ q) (ne-eqb (number (view ws) (view ws .place k)) k (λ d. n (sym (is-number c g) ∙ d))))
 
-    pub found : (b : Bool) → b ≡ eqb (getD (bits (take ruleMapWords (drop ruleMapAt ws))) r 0) 1 → b ≡ true → (c : ℕ) → c ≡ cellOf (getD ws (rulesAt + r) 0) → c ≡ k → r ≡ placeOf (view ws) k
+    pub found : (b : Bool) → b ≡ eqb (getD (bits (take ruleMapWords (drop ruleMapAt ws))) r 0) 1 → b ≡ true → (c : ℕ)
+        → c ≡ cellOf (getD ws (rulesAt + r) 0) → c ≡ k → r ≡ placeOf (view ws) k
     found b f q c g n = e ∙ sym (picks true true true low (is-taken b f ∙ q) (eq-eqb (number (view ws) (view ws .place k)) k (is-number c g ∙ n)))
 
 -- the two counts
-pub counted : (ws : List ℕ) (rules nodes : ℕ) → Passing ws → nodes ≡ sum (bits (take nodeMapWords ws)) → rules ≡ sum (bits (take ruleMapWords (drop ruleMapAt ws))) → Counts ws rules nodes
+pub counted : (ws : List ℕ) (rules nodes : ℕ) → Passing ws → nodes ≡ sum (bits (take nodeMapWords ws))
+    → rules ≡ sum (bits (take ruleMapWords (drop ruleMapAt ws))) → Counts ws rules nodes
 counted ws rules nodes p e f = record {
   rules-are =
       f ∙ ap (λ (m : List ℕ). sum (bits m)) (sym (inside ws ruleMapAt ruleMapWords (omega arith))) ∙ rules-held (take treeWords ws) (tree-long ws (p .size))

@@ -16,7 +16,8 @@ pub window : {ws ws′ : List ℕ} {a k : ℕ} → Elsewhere ws ws′ a k → (b
 window {ws} {ws′} {a} {k} e b n away = ext-getD 0 (take n (drop b ws′)) (take n (drop b ws)) long same
   where
     long : length (take n (drop b ws′)) ≡ length (take n (drop b ws))
-    long = length-take n (drop b ws′) ∙ ap (λ (z : ℕ). min n z) (length-drop b ws′ ∙ ap (λ (z : ℕ). z - b) (e .long) ∙ sym (length-drop b ws)) ∙ sym (length-take n (drop b ws))
+    long = length-take n (drop b ws′) ∙ ap (λ (z : ℕ). min n z) (length-drop b ws′ ∙ ap (λ (z : ℕ). z - b) (e .long) ∙ sym (length-drop b ws))
+        ∙ sym (length-take n (drop b ws))
 
     apart : (i : ℕ) → i < n → (b + n ≤ a) ⊎ (a + k ≤ b) → (b + i < a) ⊎ (a + k ≤ b + i)
     apart i h (inl q) = inl (omega arith)
@@ -59,7 +60,8 @@ module _ (a k : ℕ) (ws ys : List ℕ) (room : a + k ≤ length ws) (fits : len
 
       kept : (i : ℕ) → (i < a) ⊎ (a + k ≤ i) → getD (putMid a k ws ys) i 0 ≡ getD ws i 0
       kept i (inl h) = before i h
-      kept i (inr h) = let e : i ≡ a + (k + (i - (a + k))) = omega arith in ap (λ (z : ℕ). getD (putMid a k ws ys) z 0) e ∙ behind (i - (a + k)) ∙ ap (λ (z : ℕ). getD ws z 0) (sym e)
+      kept i (inr h) = let e : i ≡ a + (k + (i - (a + k))) = omega arith in ap (λ (z : ℕ). getD (putMid a k ws ys) z 0) e ∙ behind (i - (a + k))
+          ∙ ap (λ (z : ℕ). getD ws z 0) (sym e)
 
 -- the first part, which has nothing before it
 pub front-part : (k : ℕ) (ws ys : List ℕ) → k ≤ length ws → length ys ≡ k → Elsewhere ws (ys ++ drop k ws) 0 k

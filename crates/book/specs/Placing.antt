@@ -65,7 +65,8 @@ module _ (ws : List ℕ) (k r : ℕ) (p : Passing ws) (at : Placed ws k r) where
 pub shows-nothing : (ws : List ℕ) (k : ℕ) → rulesIn ws k ≡ nothing → Shows ws k false 0 (replicate 32 0)
 shows-nothing ws k e = record { is-held = sym (ap isHeld e); sized = sym (ap shownSize e); shown = sym (ap shownCells e) }
 
-pub shows-rule : (ws : List ℕ) (k r size : ℕ) (cells : List ℕ) → Passing ws → Placed ws k r → size ≡ view ws .size r → cells ≡ view ws .cells r → Shows ws k true size cells
+pub shows-rule : (ws : List ℕ) (k r size : ℕ) (cells : List ℕ) → Passing ws → Placed ws k r → size ≡ view ws .size r → cells ≡ view ws .cells r
+    → Shows ws k true size cells
 shows-rule ws k r size cells p at es ec = record {
   is-held = sym (ap isHeld (at .rule-is));
   sized = es ∙ sym (ap shownSize (at .rule-is) ∙ long);
@@ -79,19 +80,30 @@ shows-rule ws k r size cells p at es ec = record {
     long = term-size (view ws) (nodes-low ws (p .size)) (p .right) r (at .used)
 
     wide : length (view ws .cells r) ≡ 32
-    wide = fields-long (take termWords (drop (termsAt + recordWords * r) ws)) ∙ omega (arith, length-take termWords (drop (termsAt + recordWords * r) ws), length-drop (termsAt + recordWords * r) ws, p .size, at .low)
+    wide = fields-long (take termWords (drop (termsAt + recordWords * r) ws))
+        ∙ omega (arith, length-take termWords (drop (termsAt + recordWords * r) ws), length-drop (termsAt + recordWords * r) ws, p .size, at .low)
 
     short : view ws .size r ≤ 32
     short = record-short ws k r p at
 
     whole : view ws .cells r ≡ term (view ws) r ++ replicate (32 - length (term (view ws) r)) 0
     whole = ext-getD 0 (view ws .cells r) (term (view ws) r ++ replicate (32 - length (term (view ws) r)) 0)
-        (wide ∙ omega (arith, length-append (term (view ws) r) (replicate (32 - length (term (view ws) r)) 0), length-replicate {A = ℕ} (32 - length (term (view ws) r)) 0, long, short))
+        (wide ∙ omega (
+          arith,
+          length-append (term (view ws) r) (replicate (32 - length (term (view ws) r)) 0),
+          length-replicate {A = ℕ}
+              (32 - length (term (view ws) r)) 0,
+          long,
+          short,
+        ))
         (λ i h. same i (decLt i (view ws .size r)))
       where
         same : (i : ℕ) → Dec (i < view ws .size r) → getD (view ws .cells r) i 0 ≡ getD (term (view ws) r ++ replicate (32 - length (term (view ws) r)) 0) i 0
-        same i (yes l) = sym (List·getD-append (term (view ws) r) (replicate (32 - length (term (view ws) r)) 0) 0 i (omega (arith, long)) ∙ getD-take (view ws .size r) (view ws .cells r) i 0 l)
+        same i (yes l) = sym (List·getD-append (term (view ws) r) (replicate (32 - length (term (view ws) r)) 0) 0 i (omega (arith, long))
+            ∙ getD-take (view ws .size r) (view ws .cells r) i 0 l)
         same i (no l) =
             let e : i ≡ length (term (view ws) r) + (i - length (term (view ws) r)) = omega (arith, long) in
             record-clean ws k r p at i (omega arith)
-            ∙ sym (ap (λ (z : ℕ). getD (term (view ws) r ++ replicate (32 - length (term (view ws) r)) 0) z 0) e ∙ getD-append-add (term (view ws) r) (replicate (32 - length (term (view ws) r)) 0) (i - length (term (view ws) r)) 0 ∙ zeros-are (32 - length (term (view ws) r)) (i - length (term (view ws) r)))
+            ∙ sym (ap (λ (z : ℕ). getD (term (view ws) r ++ replicate (32 - length (term (view ws) r)) 0) z 0) e
+            ∙ getD-append-add (term (view ws) r) (replicate (32 - length (term (view ws) r)) 0) (i - length (term (view ws) r)) 0
+            ∙ zeros-are (32 - length (term (view ws) r)) (i - length (term (view ws) r)))

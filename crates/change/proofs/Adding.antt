@@ -111,10 +111,18 @@ module _ (ws : List ℕ) (k : ℕ) (it : Rule) (p : Passing ws) where
     judge-full b e = ap₂ (λ (h : Held) (x : Bool). pick (isHeld h) answer.HeldAlready (past-held x)) new e
 
     pub book-full : r ≡ rulesLimit → Adds ws ws k it answer.BookFull
-    book-full e = record { answer = sym (judge-full true (le-leb rulesLimit (ruleCount (rulesIn ws)) (omega (arith, count-is, all)))); passes = p; rules = refl; nodes = no-change (view ws .tree); same = λ _. refl }
+    book-full e = record {
+      answer = sym (judge-full true (le-leb rulesLimit (ruleCount (rulesIn ws)) (omega (arith, count-is, all))));
+      passes = p;
+      rules = refl;
+      nodes = no-change (view ws .tree);
+      same = λ _. refl;
+    }
       where
         all : tally (taken (view ws)) rulesLimit ≡ rulesLimit
-        all = tally-all (taken (view ws)) rulesLimit (λ y h. sym (rule-taken ws y h) ∙ one (getD (bits (take ruleMapWords (drop ruleMapAt ws))) y 0) (bit-low (take ruleMapWords (drop ruleMapAt ws)) y) (f .before y (omega arith) (omega arith)))
+        all = tally-all (taken (view ws)) rulesLimit
+            (λ y h. sym (rule-taken ws y h)
+            ∙ one (getD (bits (take ruleMapWords (drop ruleMapAt ws))) y 0) (bit-low (take ruleMapWords (drop ruleMapAt ws)) y) (f .before y (omega arith) (omega arith)))
 
     module _ (some : ¬ (r ≡ rulesLimit)) where
       pub place-low : r < rulesLimit
@@ -127,7 +135,8 @@ module _ (ws : List ℕ) (k : ℕ) (it : Rule) (p : Passing ws) where
       not-full = lt-leb rulesLimit (ruleCount (rulesIn ws)) (omega (arith, count-is, tally-le (taken (view ws)) rulesLimit, fewer))
         where
           fewer : ¬ (tally (taken (view ws)) rulesLimit ≡ rulesLimit)
-          fewer e = true≢false (as-many-all (λ y. true) (taken (view ws)) rulesLimit (λ y h u. refl) (e ∙ sym (tally-all (λ y. true) rulesLimit (λ y h. refl))) r place-low refl) place-free
+          fewer e = true≢false (as-many-all (λ y. true) (taken (view ws)) rulesLimit (λ y h u. refl)
+              (e ∙ sym (tally-all (λ y. true) rulesLimit (λ y h. refl))) r place-low refl) place-free
 
       -- the term, and its form
       module _ (whole : IsTerm t) where
@@ -260,7 +269,11 @@ module _ (ws : List ℕ) (k : ℕ) (it : Rule) (p : Passing ws) where
                 answer = sym judge-taken;
                 passes = record { size = size; right = added-right (view ws) (view ws₃) k r l it (shape t₁) low (p .right) added };
                 rules = fun-ext (λ j. added-rules (view ws) (view ws₃) k r l it (shape t₁) low (p .right) added j);
-                nodes = record { kept = λ n h u. still n h ∙ grown-kept (planted .grown nz) n u; lowest = λ n h f u j b. still j (omega arith) ∙ grown-lowest (planted .grown nz) n f (sym (still n h) ∙ u) j b };
+                nodes = record {
+                  kept = λ n h u. still n h ∙ grown-kept (planted .grown nz) n u;
+                  lowest = λ n h f u j b. still j (omega arith)
+                      ∙ grown-lowest (planted .grown nz) n f (sym (still n h) ∙ u) j b;
+                };
                 same = λ n. absurd (n refl);
               }
                 where

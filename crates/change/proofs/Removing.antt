@@ -27,7 +27,8 @@ use Rattle.book.specs.Placing.{Placed}
 -- ---- nothing to remove
 
 pub nothing-removed : (ws : List ℕ) (k : ℕ) → Passing ws → rulesIn ws k ≡ nothing → Removes ws ws k NotHeld
-nothing-removed ws k p e = record { answer = sym (ap removal e); passes = p; rules = fun-ext (λ j. go j (ℕ-discrete j k)); nodes = record { were = λ n l u. u }; same = λ _. refl }
+nothing-removed ws k p e = record
+    { answer = sym (ap removal e); passes = p; rules = fun-ext (λ j. go j (ℕ-discrete j k)); nodes = record { were = λ n l u. u }; same = λ _. refl }
   where
     go : (j : ℕ) → Dec (j ≡ k) → rulesIn ws j ≡ withoutRule (rulesIn ws) k j
     go j (yes q) = ap (rulesIn ws) q ∙ e ∙ sym (ap (λ (b : Bool). pick b nothing (rulesIn ws j)) (eq-eqb j k q))
@@ -62,11 +63,13 @@ trimmed-used root y u = u
 trimmed-used (stays e) y u = u
 trimmed-used (goes {m} {m₁} {m′} {n} s out rest) y u = let v = trimmed-used rest y u in sym (out .kept .used y (λ e. true≢false v (ap (m₁ .used) e ∙ out .gone))) ∙ v
 
-pub rule-gone : (ws : List ℕ) (k r : ℕ) → Passing ws → Placed ws k r → (t : List ℕ) → length t ≡ treeWords → Trimmed (shape (take treeWords ws)) (suc (nodesLimit + r)) (shape t) → Removes ws (t ++ drop treeWords ws) k Gone
+pub rule-gone : (ws : List ℕ) (k r : ℕ) → Passing ws → Placed ws k r → (t : List ℕ) → length t ≡ treeWords
+    → Trimmed (shape (take treeWords ws)) (suc (nodesLimit + r)) (shape t) → Removes ws (t ++ drop treeWords ws) k Gone
 rule-gone ws k r p at t lt tr = record {
   answer = sym (ap removal (at .rule-is));
   passes = record { size = o .long ∙ p .size; right = removed-right (view ws) (view (t ++ drop treeWords ws)) r (nodes-low ws (p .size)) (p .right) removed };
-  rules = fun-ext (λ j. removed-rules (view ws) (view (t ++ drop treeWords ws)) r (nodes-low ws (p .size)) (p .right) removed j ∙ ap (λ (n : ℕ). withoutRule (rulesIn ws) n j) (at .has));
+  rules = fun-ext (λ j. removed-rules (view ws) (view (t ++ drop treeWords ws)) r (nodes-low ws (p .size)) (p .right) removed j
+      ∙ ap (λ (n : ℕ). withoutRule (rulesIn ws) n j) (at .has));
   nodes = record { were = λ n l u. trimmed-used (removed .trimmed) n u };
   same = λ e. absurd (gone-held e);
 }
@@ -75,7 +78,14 @@ rule-gone ws k r p at t lt tr = record {
     o = tree-only ws t (p .size) lt
 
     removed : Taken-away (view ws) (view (t ++ drop treeWords ws)) r
-    removed = record { used = at .used; trimmed = subst (λ (m : Shape). Trimmed (view ws .tree) (suc (nodesLimit + r)) m) (sym (o .tree)) tr; places = o .places; sizes = o .sizes; cellss = o .cellss }
+    removed = record {
+      used = at .used;
+      trimmed = subst (λ (m : Shape). Trimmed (view ws .tree) (suc (nodesLimit + r)) m) (sym (o .tree)) tr;
+      places =
+          o .places;
+      sizes = o .sizes;
+      cellss = o .cellss;
+    }
 
     gone-held : ¬ (Gone ≡ NotHeld)
     gone-held e = let z : _≡_ {A = ℕ} 0 1 = cc in omega arith

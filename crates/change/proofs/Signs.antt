@@ -21,7 +21,8 @@ signs-only {ws} {ws′} e =
     ap (λ (t : List ℕ). made (shape t) (view ws′ .place) (view ws′ .size) (view ws′ .cells)) (window e 0 treeWords (inl (omega arith)))
     ∙ ap (λ (p : List ℕ). made (view ws .tree) (λ k. getD (fields p) k 0) (view ws′ .size) (view ws′ .cells)) (window e placesAt placeWords (inr (omega arith)))
     ∙ ap (λ (s : ℕ → ℕ). made (view ws .tree) (view ws .place) s (view ws′ .cells)) (fun-ext (λ r. e .kept (recordsAt + recordWords * r) (inr (omega arith))))
-    ∙ ap (λ (c : ℕ → List ℕ). made (view ws .tree) (view ws .place) (view ws .size) c) (fun-ext (λ r. ap fields (window e (termsAt + recordWords * r) termWords (inr (omega arith)))))
+    ∙ ap (λ (c : ℕ → List ℕ). made (view ws .tree) (view ws .place) (view ws .size) c)
+    (fun-ext (λ r. ap fields (window e (termsAt + recordWords * r) termWords (inr (omega arith)))))
   where
     made : Shape → (ℕ → ℕ) → (ℕ → ℕ) → (ℕ → List ℕ) → View
     made t p s c = record { tree = t; place = p; size = s; cells = c }
@@ -41,5 +42,6 @@ with-signs {ws} {ws₁} {ws₂} {k} {it} a e l = record {
 }
 
 -- the signs are written
-pub written : (ws p : List ℕ) → length ws ≡ bookWords → length p ≡ length (take signWords (drop signsAt ws)) → Elsewhere ws (putMid signsAt signWords ws p) signsAt signWords
+pub written : (ws p : List ℕ) → length ws ≡ bookWords → length p ≡ length (take signWords (drop signsAt ws))
+    → Elsewhere ws (putMid signsAt signWords ws p) signsAt signWords
 written ws p size e = one-part signsAt signWords ws p (omega arith) (omega (arith, length-take signWords (drop signsAt ws), length-drop signsAt ws))

@@ -61,7 +61,8 @@ module _ (ws p q : List ℕ) (k r n : ℕ) (it : Rule) (size : length ws ≡ boo
   stored-long = three .long ∙ two .long ∙ one .long
 
   sizes : (j : ℕ) → ¬ (j ≡ r) → getD (putMid at w ws₂ q) (recordsAt + recordWords * j) 0 ≡ getD ws (recordsAt + recordWords * j) 0
-  sizes j d = three .kept (recordsAt + recordWords * j) (away (sides j r d)) ∙ two .kept (recordsAt + recordWords * j) (off (sides j r d)) ∙ one .kept (recordsAt + recordWords * j) (inr (omega arith))
+  sizes j d = three .kept (recordsAt + recordWords * j) (away (sides j r d)) ∙ two .kept (recordsAt + recordWords * j) (off (sides j r d))
+      ∙ one .kept (recordsAt + recordWords * j) (inr (omega arith))
     where
       away : (j < r) ⊎ (r < j) → (recordsAt + recordWords * j < termsAt + recordWords * r) ⊎ (termsAt + recordWords * r + termWords ≤ recordsAt + recordWords * j)
       away (inl h) = inl (omega arith)
@@ -72,7 +73,8 @@ module _ (ws p q : List ℕ) (k r n : ℕ) (it : Rule) (size : length ws ≡ boo
       off (inr h) = inr (omega arith)
 
   cellss : (j : ℕ) → ¬ (j ≡ r) → take termWords (drop (termsAt + recordWords * j) (putMid at w ws₂ q)) ≡ take termWords (drop (termsAt + recordWords * j) ws)
-  cellss j d = window three (termsAt + recordWords * j) termWords (away (sides j r d)) ∙ window two (termsAt + recordWords * j) termWords (off (sides j r d)) ∙ window one (termsAt + recordWords * j) termWords (inr (omega arith))
+  cellss j d = window three (termsAt + recordWords * j) termWords (away (sides j r d))
+      ∙ window two (termsAt + recordWords * j) termWords (off (sides j r d)) ∙ window one (termsAt + recordWords * j) termWords (inr (omega arith))
     where
       away : (j < r) ⊎ (r < j) → (termsAt + recordWords * j + termWords ≤ termsAt + recordWords * r) ⊎ (termsAt + recordWords * r + termWords ≤ termsAt + recordWords * j)
       away (inl h) = inl (omega arith)
@@ -97,7 +99,8 @@ module _ (ws p q : List ℕ) (k r n : ℕ) (it : Rule) (size : length ws ≡ boo
       e = omega arith
 
   cells-are : take termWords (drop (termsAt + recordWords * r) (putMid at w ws₂ q)) ≡ q
-  cells-are = subst (λ (z : ℕ). take termWords (drop (termsAt + recordWords * r) (putMid at z ws₂ q)) ≡ q) (sym ew) (part-is (termsAt + recordWords * r) termWords ws₂ q (omega (arith, long₂)) lq)
+  cells-are = subst (λ (z : ℕ). take termWords (drop (termsAt + recordWords * r) (putMid at z ws₂ q)) ≡ q) (sym ew)
+      (part-is (termsAt + recordWords * r) termWords ws₂ q (omega (arith, long₂)) lq)
 
   places-long : k < length (fields (take placeWords (drop placesAt ws)))
   places-long = omega (arith, fields-long (take placeWords (drop placesAt ws)), length-take placeWords (drop placesAt ws), length-drop placesAt ws)
@@ -105,8 +108,10 @@ module _ (ws p q : List ℕ) (k r n : ℕ) (it : Rule) (size : length ws ≡ boo
   pub stored : Stores (view ws) (view (putMid at w ws₂ q)) k r it
   stored = record {
     tree = ap shape tree;
-    to-place = ap (λ (z : List ℕ). getD (fields z) k 0) places ∙ ap (λ (z : List ℕ). getD z k 0) fp ∙ getD-set-same (fields (take placeWords (drop placesAt ws))) k r 0 places-long;
-    places = λ j d. ap (λ (z : List ℕ). getD (fields z) j 0) places ∙ ap (λ (z : List ℕ). getD z j 0) fp ∙ getD-set-other (fields (take placeWords (drop placesAt ws))) k j r 0 d;
+    to-place = ap (λ (z : List ℕ). getD (fields z) k 0) places ∙ ap (λ (z : List ℕ). getD z k 0) fp
+        ∙ getD-set-same (fields (take placeWords (drop placesAt ws))) k r 0 places-long;
+    places = λ j d. ap (λ (z : List ℕ). getD (fields z) j 0) places ∙ ap (λ (z : List ℕ). getD z j 0) fp
+        ∙ getD-set-other (fields (take placeWords (drop placesAt ws))) k j r 0 d;
     size = size-is;
     sizes = sizes;
     cells = ap fields cells-are ∙ fq;

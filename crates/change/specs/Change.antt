@@ -67,13 +67,15 @@ not-number : (v : View) (k r : ℕ) → ¬ (number v r ≡ k) → holding v k r 
 unfolding holding
 not-number v k r n =
     ap (λ (b : Bool). pick b (rule (ruleAt v r)) nothing)
-    (ap (λ (x : Bool). both (ltb r rulesLimit) (both (taken v r) x)) (ne-eqb (number v r) k n) ∙ ap (both (ltb r rulesLimit)) (both-false (taken v r)) ∙ both-false (ltb r rulesLimit))
+    (ap (λ (x : Bool). both (ltb r rulesLimit) (both (taken v r) x)) (ne-eqb (number v r) k n) ∙ ap (both (ltb r rulesLimit)) (both-false (taken v r))
+    ∙ both-false (ltb r rulesLimit))
 
 is-number : (v : View) (k r : ℕ) → r < rulesLimit → taken v r ≡ true → number v r ≡ k → holding v k r ≡ rule (ruleAt v r)
 unfolding holding
 is-number v k r l u n =
     ap (λ (b : Bool). pick b (rule (ruleAt v r)) nothing)
-    (ap (λ (x : Bool). both x (both (taken v r) (eqb (number v r) k))) (lt-ltb r rulesLimit l) ∙ ap (λ (x : Bool). both x (eqb (number v r) k)) u ∙ eq-eqb (number v r) k n)
+    (ap (λ (x : Bool). both x (both (taken v r) (eqb (number v r) k))) (lt-ltb r rulesLimit l) ∙ ap (λ (x : Bool). both x (eqb (number v r) k)) u
+    ∙ eq-eqb (number v r) k n)
 
 same-holding : (v v′ : View) (k r : ℕ) → SameAt v v′ r → holding v′ k r ≡ holding v k r
 unfolding holding
@@ -81,7 +83,8 @@ same-holding v v′ k r s = go (taken v r) refl
   where
     go : (b : Bool) → taken v r ≡ b → holding v′ k r ≡ holding v k r
     go false e = not-taken v′ k r (s .used ∙ e) ∙ sym (not-taken v k r e)
-    go true e = ap₂ (λ (b : Bool) (x : Rule). pick (both (ltb r rulesLimit) b) (rule x) nothing) (ap₂ both (s .used) (ap (λ (x : ℕ). eqb x k) (s .numbers e))) (same-rule s)
+    go true e = ap₂ (λ (b : Bool) (x : Rule). pick (both (ltb r rulesLimit) b) (rule x) nothing)
+        (ap₂ both (s .used) (ap (λ (x : ℕ). eqb x k) (s .numbers e))) (same-rule s)
 
 -- ---- one rule more
 
@@ -140,14 +143,16 @@ module _ (v v′ : View) (k r p : ℕ) (it : Rule) (m : Shape) (small : (n : ℕ
   new-record = record {
     low = subst (λ (x : ℕ). x < ruleNumbers) (sym added-number) (a .low);
     found = ap (v′ .place) added-number ∙ a .to-place;
-    whole = ap readTerm (a .cells .1 ∙ ap (λ (l : List ℕ). l ++ replicate (a .cells .0) 0) (sym (take-length t))) ∙ whole-alone t (replicate (a .cells .0) 0) (length t) (a .whole) ∙ ap Whole (sym (a .size));
+    whole = ap readTerm (a .cells .1 ∙ ap (λ (l : List ℕ). l ++ replicate (a .cells .0) 0) (sym (take-length t)))
+        ∙ whole-alone t (replicate (a .cells .0) 0) (length t) (a .whole) ∙ ap Whole (sym (a .size));
     clean = λ i h. ap (λ (l : List ℕ). getD l i 0) (a .cells .1) ∙ past i (subst (λ (n : ℕ). n ≤ i) (a .size) h);
   }
     where
       past : (i : ℕ) → length t ≤ i → getD (t ++ replicate (a .cells .0) 0) i 0 ≡ 0
       past i h =
           let e : i ≡ length t + (i - length t) = omega arith in
-          ap (λ (x : ℕ). getD (t ++ replicate (a .cells .0) 0) x 0) e ∙ getD-append-add t (replicate (a .cells .0) 0) (i - length t) 0 ∙ zeros (a .cells .0) (i - length t)
+          ap (λ (x : ℕ). getD (t ++ replicate (a .cells .0) 0) x 0) e ∙ getD-append-add t (replicate (a .cells .0) 0) (i - length t) 0
+          ∙ zeros (a .cells .0) (i - length t)
 
   added-records : (j : ℕ) → taken v′ j ≡ true → Recorded v′ j
   added-records j u = go (ℕ-discrete j r)
@@ -265,7 +270,8 @@ module _ (v v′ : View) (r : ℕ) (small : (n : ℕ) → Used (v .tree) n → n
   left : Left (v .tree) rest (suc (nodesLimit + r))
   unfolding rest
   left = left-of (right .tree) (rows-free hang) (endAt v r) leaves-joins
-      (λ y i e. let q = of-ends v others i in of-others (q .0) (q .1) .1 (let d : nodesLimit + q .0 ≡ nodesLimit + r = ap (λ (z : End). z .last) (q .3) ∙ e in omega arith))
+      (λ y i e. let q = of-ends v others i in of-others (q .0) (q .1) .1
+      (let d : nodesLimit + q .0 ≡ nodesLimit + r = ap (λ (z : End). z .last) (q .3) ∙ e in omega arith))
 
   -- no other rule lies on the way up from this one
   off : (j : ℕ) → ¬ (j ≡ r) → ¬ (On (v .tree) (nodesLimit + j) (suc (nodesLimit + r)))
@@ -275,7 +281,8 @@ module _ (v v′ : View) (r : ℕ) (small : (n : ℕ) → Used (v .tree) n → n
       d (omega arith)
 
   removed-same : (j : ℕ) → ¬ (j ≡ r) → SameAt v v′ j
-  removed-same j d = let q = trimmed-kept (a .trimmed) left (nodesLimit + j) (off j d) in record { used = q .0; numbers = λ u. q .1; size = a .sizes j; cells = a .cellss j }
+  removed-same j d = let q = trimmed-kept (a .trimmed) left (nodesLimit + j) (off j d) in record
+      { used = q .0; numbers = λ u. q .1; size = a .sizes j; cells = a .cellss j }
 
   removed-gone : taken v′ r ≡ false
   removed-gone = trimmed-gone (a .trimmed) left (end-childless (right .tree) (rows-free hang) (endAt v r) (leaves-joins .joined))
@@ -294,7 +301,10 @@ module _ (v v′ : View) (r : ℕ) (small : (n : ℕ) → Used (v .tree) n → n
 
   pub removed-right : Right v′
   removed-right = record {
-    records = λ j u. let d = still-other j u in let s = removed-same j d in let w : taken v j ≡ true = sym (s .used) ∙ u in same-record s w (a .places (number v j)) (right .records j w);
+    records = λ j u.
+        let d = still-other j u in
+        let s = removed-same j d in
+        let w : taken v j ≡ true = sym (s .used) ∙ u in same-record s w (a .places (number v j)) (right .records j w);
     tree = passes-same rest (ends (leaves v′)) removed-ends (trimmed-passes (a .trimmed) left);
   }
 

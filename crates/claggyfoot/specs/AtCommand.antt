@@ -35,7 +35,8 @@ use Rattle.claggyfoot.specs.Refusals.{Adds-term, add-refused, goes-on-wi
 written-on : (rs qs : List Record) → written (rs ++ qs) ≡ written rs ++ written qs
 unfolding written
 written-on [] qs = refl
-written-on (r ∷ rs) qs = ap (λ (z : List ℕ). ((4096 * r .refusal + length (r .cells)) ∷ r .cells) ++ z) (written-on rs qs) ∙ sym (append-assoc ((4096 * r .refusal + length (r .cells)) ∷ r .cells) (written rs) (written qs))
+written-on (r ∷ rs) qs = ap (λ (z : List ℕ). ((4096 * r .refusal + length (r .cells)) ∷ r .cells) ++ z) (written-on rs qs)
+    ∙ sym (append-assoc ((4096 * r .refusal + length (r .cells)) ∷ r .cells) (written rs) (written qs))
 
 module _ (rs : List Record) (a : Record) (qs : List Record) where
   -- the first cell of a record
@@ -60,8 +61,10 @@ shown-bare : (h : Held) → ¬ (shown h .refusal ≡ 0) → shown h ≡ bare (sh
 shown-bare nothing n = refl
 shown-bare (rule r) n = absurd (n refl)
 
-pub refused-bare : (rules : Rules) (behind : List ℕ) (x : Command) → ¬ (does rules behind x .answer .refusal ≡ 0) → does rules behind x .answer ≡ bare (does rules behind x .answer .refusal)
-refused-bare rules behind x = any-effect rules behind x (λ e. ¬ (e .answer .refusal ≡ 0) → e .answer ≡ bare (e .answer .refusal)) (go (x .act) (x .number) (take (x .size) behind)) (λ n. refl)
+pub refused-bare : (rules : Rules) (behind : List ℕ) (x : Command) → ¬ (does rules behind x .answer .refusal ≡ 0)
+    → does rules behind x .answer ≡ bare (does rules behind x .answer .refusal)
+refused-bare rules behind x = any-effect rules behind x (λ e. ¬ (e .answer .refusal ≡ 0) → e .answer ≡ bare (e .answer .refusal))
+    (go (x .act) (x .number) (take (x .size) behind)) (λ n. refl)
   where
     go : (a : Act) (k : ℕ) (t : List ℕ) → ¬ (acts a rules k t .answer .refusal ≡ 0) → acts a rules k t .answer ≡ bare (acts a rules k t .answer .refusal)
     go Unknown k t n = refl
@@ -92,14 +95,16 @@ pub does-stops : (rules : Rules) (behind : List ℕ) (x : Command) (r : ℕ) →
 does-stops rules behind x r n e = does-stop rules behind x (λ z. n (sym e ∙ z)) ∙ ap (λ (j : ℕ). tells (bare j) rules) e
 
 -- what a refused command does: it tells its refusal, and nothing else
-pub refused-tells : (rules : Rules) (behind : List ℕ) (x : Command) (r : ℕ) → ¬ (r ≡ 0) → does rules behind x .answer .refusal ≡ r → does rules behind x ≡ tells (bare r) rules
+pub refused-tells : (rules : Rules) (behind : List ℕ) (x : Command) (r : ℕ) → ¬ (r ≡ 0) → does rules behind x .answer .refusal ≡ r
+    → does rules behind x ≡ tells (bare r) rules
 refused-tells rules behind x r n e =
     let some : ¬ (does rules behind x .answer .refusal ≡ 0) = λ z. n (sym e ∙ z) in
     let a : does rules behind x .answer ≡ bare r = refused-bare rules behind x some ∙ ap bare e in
     let b : does rules behind x .changes ≡ [] = refused-stays rules behind x some in
     same a (does-rules rules behind x b) b
   where
-    same : {a b : Record} {p q : Rules} {cs ds : List Change} → a ≡ b → p ≡ q → cs ≡ ds → _≡_ {A = Effect} (record { answer = a; rules = p; changes = cs }) (record { answer = b; rules = q; changes = ds })
+    same : {a b : Record} {p q : Rules} {cs ds : List Change} → a ≡ b → p ≡ q → cs ≡ ds
+        → _≡_ {A = Effect} (record { answer = a; rules = p; changes = cs }) (record { answer = b; rules = q; changes = ds })
     same e f g = cc
 
 -- ---- at the call
@@ -114,7 +119,8 @@ module _ {call : Call} {s : Stage} {c : ℕ} {behind : List ℕ} (at : CameTo ca
   came : Came (run (rulesIn (call .book)) (call .cells) (length (call .output))) (call .book) (call .book′) (call .output) (call .output′) (call .stop) (call .used) (call .written-cells)
   came = passing (at .kept) (at .passes)
 
-  comes : (o : Outcome) → run (s .rules) (c ∷ behind) (s .room) ≡ o → Came (from s o) (call .book) (call .book′) (call .output) (call .output′) (call .stop) (call .used) (call .written-cells)
+  comes : (o : Outcome) → run (s .rules) (c ∷ behind) (s .room) ≡ o
+      → Came (from s o) (call .book) (call .book′) (call .output) (call .output′) (call .stop) (call .used) (call .written-cells)
   comes o e = subst (λ (z : Outcome). Came z (call .book) (call .book′) (call .output) (call .output′) (call .stop) (call .used) (call .written-cells))
       (reached (at .reaches) ∙ ap (λ (z : List ℕ). from s (run (s .rules) z (s .room))) (at .here) ∙ ap (from s) e) came
 
@@ -125,7 +131,8 @@ module _ {call : Call} {s : Stage} {c : ℕ} {behind : List ℕ} (at : CameTo ca
   limits = let m = memory in subst Limited (m .1 .rules-are) (limited (m .0) (m .1 .passes))
 
   -- it ends here, with these records more and no change
-  ends-here : (stop : ℕ) (qs : List Record) → run (s .rules) (c ∷ behind) (s .room) ≡ record { stop = stop; used = 0; records = qs; rules = s .rules; changes = [] } → Ended call s stop (s .records ++ qs)
+  ends-here : (stop : ℕ) (qs : List Record)
+      → run (s .rules) (c ∷ behind) (s .room) ≡ record { stop = stop; used = 0; records = qs; rules = s .rules; changes = [] } → Ended call s stop (s .records ++ qs)
   ends-here stop qs e =
       let x = comes (record { stop = stop; used = 0; records = qs; rules = s .rules; changes = [] }) e in
       record {
@@ -138,7 +145,8 @@ module _ {call : Call} {s : Stage} {c : ℕ} {behind : List ℕ} (at : CameTo ca
           passes = x .book .passes;
           rules-are = x .book .rules-are;
           so-far = subst (λ (cs : List Change). Along cs (call .book) (call .book′)) (append-nil (s .changes)) (x .book .along);
-          to-come = subst (λ (cs : List Change). Along cs (call .book′) (call .book′)) (sym (ap (λ (z : List ℕ). run (s .rules) z (s .room) .changes) (at .here) ∙ ap (λ (o : Outcome). o .changes) e)) none;
+          to-come = subst (λ (cs : List Change). Along cs (call .book′) (call .book′))
+              (sym (ap (λ (z : List ℕ). run (s .rules) z (s .room) .changes) (at .here) ∙ ap (λ (o : Outcome). o .changes) e)) none;
         };
       }
 
@@ -172,10 +180,13 @@ module _ {call : Call} {s : Stage} {c : ℕ} {behind : List ℕ} (at : CameTo ca
       low : length (effect .answer .cells) < 4096
       low = short-record (s .rules) limits behind command
 
-      with-records : (qs : List Record) → call .written-cells ≡ length (written (s .records ++ (effect .answer ∷ qs))) → call .output′ ≡ written (s .records ++ (effect .answer ∷ qs)) ++ drop (call .written-cells) (call .output) → Answered call s (effect .answer .refusal)
+      with-records : (qs : List Record) → call .written-cells ≡ length (written (s .records ++ (effect .answer ∷ qs)))
+          → call .output′ ≡ written (s .records ++ (effect .answer ∷ qs)) ++ drop (call .written-cells) (call .output) → Answered call s (effect .answer .refusal)
       with-records qs w o =
           let p = written-past (s .records) (effect .answer) qs in
-          let f : getD (call .output′) (length (written (s .records))) 0 ≡ 4096 * effect .answer .refusal + length (effect .answer .cells) = ap (λ (z : List ℕ). getD z (length (written (s .records))) 0) o ∙ first-cell (s .records) (effect .answer) qs (drop (call .written-cells) (call .output)) in
+          let f : getD (call .output′) (length (written (s .records))) 0
+          ≡ 4096 * effect .answer .refusal + length (effect .answer .cells) = ap (λ (z : List ℕ). getD z (length (written (s .records))) 0) o
+          ∙ first-cell (s .records) (effect .answer) qs (drop (call .written-cells) (call .output)) in
           let d = low in
           (omega arith, omega arith)
 
@@ -214,7 +225,8 @@ module _ {call : Call} {s : Stage} {c : ℕ} {behind : List ℕ} (at : CameTo ca
       all y = ended-by r n (w .1 (y .1)) (y .0)
 
   -- the batch goes on behind a refused command: the same words
-  pub idle-stays : effect .changes ≡ [] → length (effect .answer .cells) < s .room → command .stop ≡ 0 → (m : List ℕ) → MemoryAt (call .book) (call .book′) s m → MemoryAt (call .book) (call .book′) (onward s (sizeOf c behind) effect behind) m
+  pub idle-stays : effect .changes ≡ [] → length (effect .answer .cells) < s .room → command .stop ≡ 0 → (m : List ℕ)
+      → MemoryAt (call .book) (call .book′) s m → MemoryAt (call .book) (call .book′) (onward s (sizeOf c behind) effect behind) m
   idle-stays e l z m x = record {
     passes = x .passes;
     rules-are = x .rules-are ∙ sym (does-rules (s .rules) behind command e);
@@ -230,12 +242,20 @@ module _ {call : Call} {s : Stage} {c : ℕ} {behind : List ℕ} (at : CameTo ca
       let few : length (effect .answer .cells) < s .room = subst (λ (x : Effect). length (x .answer .cells) < s .room) (sym same) h in
       record {
         goes-on = subst (λ (f : Effect). GoneOn call s (f .answer) (onward s (sizeOf c behind) f behind)) same (gone-on few z);
-        same-words = λ m x. subst (λ (f : Effect). MemoryAt (call .book) (call .book′) (onward s (sizeOf c behind) f behind) m) same (idle-stays (ap (λ (f : Effect). f .changes) same) few z m x);
+        same-words = λ m x. subst (λ (f : Effect). MemoryAt (call .book) (call .book′) (onward s (sizeOf c behind) f behind) m) same
+            (idle-stays (ap (λ (f : Effect). f .changes) same) few z m x);
       }
 
-  pub refused-exactly : (r : ℕ) → ¬ (r ≡ 0) → (effect .answer .refusal ≡ r → command .stop ≡ 0) → {P : Type 0} → effect .answer .refusal ≡ r ↔ P → Exactly (Answered call s r) ((0 < s .room) × P) (RefusedOn call s r c behind)
-  refused-exactly r n goes {P} w =
-      (((λ a. let x = answered r .0 a in (let l = x .0 in omega arith, w .0 (x .1))), (λ y. let e = w .1 (y .1) in answered r .1 (few e (y .0), e))), (λ y. let e = w .1 (y .1) in refused-on r n (goes e) e (y .0)))
+  pub refused-exactly : (r : ℕ) → ¬ (r ≡ 0) → (effect .answer .refusal ≡ r → command .stop ≡ 0) → {P : Type 0} → effect .answer .refusal ≡ r ↔ P
+      → Exactly (Answered call s r) ((0 < s .room) × P) (RefusedOn call s r c behind)
+  refused-exactly r n goes {P} w = (
+    (
+      (λ a. let x = answered r .0 a in (let l = x .0 in omega arith, w .0 (x .1))),
+      (λ y. let e = w .1 (y .1) in answered r .1
+          (few e (y .0), e)),
+    ),
+    (λ y. let e = w .1 (y .1) in refused-on r n (goes e) e (y .0)),
+  )
     where
       few : effect .answer .refusal ≡ r → 0 < s .room → length (effect .answer .cells) < s .room
       few e h = subst (λ (x : Effect). length (x .answer .cells) < s .room) (sym (refused-tells (s .rules) behind command r n e)) h
@@ -250,19 +270,24 @@ module _ {call : Call} {s : Stage} {c : ℕ} {behind : List ℕ} (at : CameTo ca
         where
           go : Dec (command .stop ≡ 0) → s .room ≤ length (effect .answer .cells)
           go (yes z) = absurd (let g = gone-on l z .counted in let u = x .1 in omega arith)
-          go (no z) = absurd (let e : command .stop ≡ 10 = sym (ended-by (command .stop) z refl (omega arith) .stop-is) ∙ x .0 in let low = read-of (c / 4096) (c % 4096) behind (omega arith) .stop-low in omega arith)
+          go (no z) = absurd (let e : command .stop ≡ 10 = sym (ended-by (command .stop) z refl (omega arith) .stop-is) ∙ x .0 in
+              let low = read-of (c / 4096) (c % 4096) behind (omega arith) .stop-low in omega arith)
 
   -- 3, 4, 5; and 6, 8, 9
-  pub fault-exactly : (r : ℕ) → 3 ≤ r → ¬ (r ≡ 10) → {P : Type 0} → FaultIs r behind ↔ P → Exactly (StopsHere call s r) ((0 < s .room) × (TakesTerm (kindAt (c / 4096)) (c % 4096) × P)) (StoppedBy call s r)
+  pub fault-exactly : (r : ℕ) → 3 ≤ r → ¬ (r ≡ 10) → {P : Type 0} → FaultIs r behind ↔ P
+      → Exactly (StopsHere call s r) ((0 < s .room) × (TakesTerm (kindAt (c / 4096)) (c % 4096) × P)) (StoppedBy call s r)
   fault-exactly r h d {P} w =
       let t = term-fault (kindAt (c / 4096)) (c % 4096) behind r h in
-      stops-exactly r (λ e. absurd (omega arith)) d {P = TakesTerm (kindAt (c / 4096)) (c % 4096) × P} ((λ e. let x = t .0 e in (x .0, w .0 (x .1))), (λ x. t .1 (x .0, w .1 (x .1))))
+      stops-exactly r (λ e. absurd (omega arith)) d {P = TakesTerm (kindAt (c / 4096)) (c % 4096) × P}
+      ((λ e. let x = t .0 e in (x .0, w .0 (x .1))), (λ x. t .1 (x .0, w .1 (x .1))))
 
   pub add-exactly : (r : ℕ) → 6 ≤ r → ¬ (r ≡ 7) → {P : Type 0} → addRefusal (judged (s .rules) (c % 4096) (ruleOf c behind)) ≡ r ↔ P
       → Exactly (Answered call s r) ((0 < s .room) × (Adds-term (kindAt (c / 4096)) behind (sizeOf c behind) × P)) (RefusedOn call s r c behind)
   add-exactly r h n {P} w =
       let t = add-refused (s .rules) (c / 4096) (c % 4096) (omega arith) behind r h n in
-      refused-exactly r (λ e. absurd (omega arith)) (goes-on-with (s .rules) (c / 4096) (c % 4096) (omega arith) behind r (λ x. let a = x .1 in omega arith)) {P = Adds-term (kindAt (c / 4096)) behind (sizeOf c behind) × P}
+      refused-exactly r (λ e. absurd (omega arith))
+      (goes-on-with (s .rules) (c / 4096) (c % 4096) (omega arith) behind r (λ x. let a = x .1 in omega arith))
+      {P = Adds-term (kindAt (c / 4096)) behind (sizeOf c behind) × P}
       ((λ e. let x = t .0 e in (x .0, w .0 (x .1))), (λ x. t .1 (x .0, w .1 (x .1))))
 
   -- ---- an add that takes effect
@@ -292,7 +317,8 @@ module _ {call : Call} {s : Stage} {c : ℕ} {behind : List ℕ} (at : CameTo ca
           to-come = f .2;
         };
         exactly = λ n l. subst (λ (r : Rules). InUse (f .0) n ↔ (InUse (m .0) n ⊎ (freeBelow (m .0) n < nodesOf r - nodesOf (s .rules)))) held
-            (subst (λ (r : Rules). InUse (f .0) n ↔ (InUse (m .0) n ⊎ (freeBelow (m .0) n < nodesOf (rulesIn (f .0)) - nodesOf r))) (m .1 .rules-are) (which-nodes (m .0) (f .0) (m .1 .passes) (f .1 .passes) (f .1 .nodes) n l));
+            (subst (λ (r : Rules). InUse (f .0) n ↔ (InUse (m .0) n ⊎ (freeBelow (m .0) n < nodesOf (rulesIn (f .0)) - nodesOf r))) (m .1 .rules-are)
+            (which-nodes (m .0) (f .0) (m .1 .passes) (f .1 .passes) (f .1 .nodes) n l));
       }
     where
       k : ℕ
@@ -312,7 +338,8 @@ module _ {call : Call} {s : Stage} {c : ℕ} {behind : List ℕ} (at : CameTo ca
 
       f : (m′ : List ℕ) × Changes (more k its) (m .0) m′ × Along (rest (s .rules) c behind (s .room) .changes) m′ (call .book′)
       f = first-of (more k its) (rest (s .rules) c behind (s .room) .changes) (m .1 .to-come)
-          (ap (λ (y : List ℕ). run (s .rules) y (s .room) .changes) (at .here) ∙ ap (λ (o : Outcome). o .changes) (run-goes-on (s .rules) c behind (s .room) few (goes-on x))
+          (ap (λ (y : List ℕ). run (s .rules) y (s .room) .changes) (at .here)
+          ∙ ap (λ (o : Outcome). o .changes) (run-goes-on (s .rules) c behind (s .room) few (goes-on x))
           ∙ ap (λ (cs : List Change). cs ++ rest (s .rules) c behind (s .room) .changes) new)
 
       held : rulesIn (f .0) ≡ effect .rules
@@ -332,7 +359,8 @@ module _ (call : Call) (kept : Kept call) (p : Passing (call .book)) (all : (s :
   none-from zero s r [] e h = ap (λ (o : Outcome). o .changes) (run-none (s .rules) (s .room))
   none-from zero s r (c ∷ behind) e h = absurd (omega arith)
   none-from (suc fuel) s r [] e h = ap (λ (o : Outcome). o .changes) (run-none (s .rules) (s .room))
-  none-from (suc fuel) s r (c ∷ behind) e h = go (λ t q l. none-from fuel t q (t .cells) refl l) (decLt (length (x .answer .cells)) (s .room)) (ℕ-discrete (commandIn (c ∷ behind) .stop) 0)
+  none-from (suc fuel) s r (c ∷ behind) e h = go (λ t q l. none-from fuel t q (t .cells) refl l) (decLt (length (x .answer .cells)) (s .room))
+      (ℕ-discrete (commandIn (c ∷ behind) .stop) 0)
     where
       x : Effect
       x = effectOf s c behind
@@ -340,7 +368,8 @@ module _ (call : Call) (kept : Kept call) (p : Passing (call .book)) (all : (s :
       stay : x .changes ≡ []
       stay = idle s c behind (all s c behind (record { kept = kept; passes = p; reaches = r; here = e }))
 
-      go : ((t : Stage) → Comes-to t → length (t .cells) ≤ fuel → run (t .rules) (t .cells) (t .room) .changes ≡ []) → Dec (length (x .answer .cells) < s .room) → Dec (commandIn (c ∷ behind) .stop ≡ 0) → run (s .rules) (c ∷ behind) (s .room) .changes ≡ []
+      go : ((t : Stage) → Comes-to t → length (t .cells) ≤ fuel → run (t .rules) (t .cells) (t .room) .changes ≡ [])
+          → Dec (length (x .answer .cells) < s .room) → Dec (commandIn (c ∷ behind) .stop ≡ 0) → run (s .rules) (c ∷ behind) (s .room) .changes ≡ []
       go ih (no l) z = ap (λ (o : Outcome). o .changes) (run-10 (s .rules) c behind (s .room) (omega arith))
       go ih (yes l) (no z) = ap (λ (o : Outcome). o .changes) (run-stops (s .rules) c behind (s .room) l z) ∙ stay
       go ih (yes l) (yes z) =

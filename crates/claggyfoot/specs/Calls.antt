@@ -86,7 +86,8 @@ module _ (call : Call) (s : Stage) where
   -- The command is refused and the batch goes on: a record without further cells, the same rules, and the same words as before it.
   pub record RefusedOn (r c : ℕ) (behind : List ℕ) : Type 0 where
     pub goes-on : GoneOn (bare r) (onward s (sizeOf c behind) (tells (bare r) (s .rules)) behind)
-    pub same-words : (m : List ℕ) → MemoryAt (call .book) (call .book′) s m → MemoryAt (call .book) (call .book′) (onward s (sizeOf c behind) (tells (bare r) (s .rules)) behind) m
+    pub same-words : (m : List ℕ) → MemoryAt (call .book) (call .book′) s m
+        → MemoryAt (call .book) (call .book′) (onward s (sizeOf c behind) (tells (bare r) (s .rules)) behind) m
 
   -- The command stops the batch with its record, one cell.
   abbrev pub StoppedBy : ℕ → Type 0

@@ -50,8 +50,16 @@ pub use Rattle.claggyfoot.specs.Numbers.{enters-numbers-once, part-numbe
 -- ==== Demand 1: each refusal in the list comes exactly when its condition and the order call for it
 
 -- 1: memory has a wrong length or does not pass. No record; used and written are 0; all memory unchanged.
-pub refusal-1 : (call : Call) → Kept call → Exactly (call .stop ≡ 1) (¬ (Passing (call .book))) (Turned-away (call .book) (call .book′) (call .output) (call .output′) (call .stop) (call .used) (call .written-cells))
-refusal-1 call (ran p r) = ((λ e. absurd (never (batch-ends (rulesIn (call .book)) (call .cells) (length (call .output)) .number) (sym (r .stop-is) ∙ e)), λ f. absurd (f p)), λ f. absurd (f p))
+pub refusal-1 : (call : Call) → Kept call
+    → Exactly (call .stop ≡ 1) (¬ (Passing (call .book))) (Turned-away (call .book) (call .book′) (call .output) (call .output′) (call .stop) (call .used) (call .written-cells))
+refusal-1 call (ran p r) = (
+  (
+    λ e. absurd
+        (never (batch-ends (rulesIn (call .book)) (call .cells) (length (call .output)) .number) (sym (r .stop-is) ∙ e)),
+    λ f. absurd (f p),
+  ),
+  λ f. absurd (f p),
+)
   where
     never : {s : ℕ} → StopNumber s → s ≡ 1 → ⊥
     never (inl e) f = omega arith
@@ -69,10 +77,12 @@ refusal-1-passes (passing-number p e) = ((λ f. absurd (omega arith)), λ f. abs
 refusal-1-passes (failing f e) = ((λ _. f), λ _. e)
 
 -- .. entering a name, and the name of a number: the table. Refused, the number is 0 (start and length are 0), and every byte stays.
-pub refusal-1-enter : {table name table′ : List ℕ} {refusal number : ℕ} (call : EntersNumbers table name refusal number table′) → Exactly (refusal ≡ 1) (¬ (PassesTable table)) (Gave call 1 0 table)
+pub refusal-1-enter : {table name table′ : List ℕ} {refusal number : ℕ} (call : EntersNumbers table name refusal number table′)
+    → Exactly (refusal ≡ 1) (¬ (PassesTable table)) (Gave call 1 0 table)
 refusal-1-enter = enter-1
 
-pub refusal-1-name-of : {table : List ℕ} {number refusal start size : ℕ} (call : PartNumbers table number refusal start size) → Exactly (refusal ≡ 1) (¬ (PassesTable table)) (Told call 1 0 0)
+pub refusal-1-name-of : {table : List ℕ} {number refusal start size : ℕ} (call : PartNumbers table number refusal start size)
+    → Exactly (refusal ≡ 1) (¬ (PassesTable table)) (Told call 1 0 0)
 refusal-1-name-of = name-of-1
 
 -- The kinds are rows of one table (crates/commands/specs/Kinds). For which kinds a row says what, in the words of the table of commands:
@@ -119,7 +129,8 @@ module _ {call : Call} {s : Stage} {c : ℕ} {behind : List ℕ} (at : CameTo ca
 
   -- 7: remove, show: number not held. Record 7000, go on.
   pub refusal-7 : Exactly (Answered call s 7) ((0 < s .room) × (Names-rule row × (s .rules number ≡ nothing))) (RefusedOn call s 7 c behind)
-  refusal-7 = refused-exactly at 7 (λ e. absurd (omega arith)) (goes-on-with (s .rules) kind number (omega arith) behind 7 (λ x. let a = x .1 in omega arith)) (not-held (s .rules) kind number (omega arith) behind)
+  refusal-7 = refused-exactly at 7 (λ e. absurd (omega arith))
+      (goes-on-with (s .rules) kind number (omega arith) behind 7 (λ x. let a = x .1 in omega arith)) (not-held (s .rules) kind number (omega arith) behind)
 
   -- 8: add, 512 rules held (and not 6). Record 8000, go on.
   pub refusal-8 : Exactly (Answered call s 8)
@@ -129,7 +140,8 @@ module _ {call : Call} {s : Stage} {c : ℕ} {behind : List ℕ} (at : CameTo ca
 
   -- 9: add, node count with the rule would pass 4,096 (and neither 6 nor 8). Record 9000, go on.
   pub refusal-9 : Exactly (Answered call s 9)
-      ((0 < s .room) × (Adds-term row behind size × ((s .rules number ≡ nothing) × (ruleCount (s .rules) < rulesLimit) × (nodesLimit < nodesOf (withRule (s .rules) number new-rule)))))
+      ((0 < s .room) × (Adds-term row behind size
+      × ((s .rules number ≡ nothing) × (ruleCount (s .rules) < rulesLimit) × (nodesLimit < nodesOf (withRule (s .rules) number new-rule)))))
       (RefusedOn call s 9 c behind)
   refusal-9 = add-exactly at 9 (omega arith) (λ e. absurd (omega arith)) (nine (s .rules) number new-rule)
 
@@ -159,7 +171,8 @@ module _ {call : Call} {s : Stage} {c : ℕ} {behind : List ℕ} (at : CameTo ca
   new-nodes = nodes-taken at
 
 -- 11: no name: empty, over 31 bytes, a byte outside 32 to 126, or first or last byte a space. Number 0, every byte of the table as it was.
-pub refusal-11 : {table name table′ : List ℕ} {refusal number : ℕ} (call : EntersNumbers table name refusal number table′) → Exactly (refusal ≡ 11) (PassesTable table × ¬ (IsName name)) (Gave call 11 0 table)
+pub refusal-11 : {table name table′ : List ℕ} {refusal number : ℕ} (call : EntersNumbers table name refusal number table′)
+    → Exactly (refusal ≡ 11) (PassesTable table × ¬ (IsName name)) (Gave call 11 0 table)
 refusal-11 = enter-11
 
 -- 12: name not held, no free slot. Number 0, every byte of the table as it was.
@@ -213,10 +226,12 @@ pub record ListsExactly (mode : Mode) (question : List ℕ) (rules : Rules) (num
   pub few : length numbers ≤ ruleCount rules
 
 -- Each question that a batch comes to has such a list for its record, written in full, where the list has room; and then the batch goes on with the same rules.
-pub demand-2 : {call : Call} {s : Stage} {c : ℕ} {behind : List ℕ} → CameTo call s c behind → (mode : Mode) → kindAt (c / 4096) .act ≡ ask mode → commandIn (c ∷ behind) .stop ≡ 0
+pub demand-2 : {call : Call} {s : Stage} {c : ℕ} {behind : List ℕ} → CameTo call s c behind → (mode : Mode) → kindAt (c / 4096) .act ≡ ask mode
+    → commandIn (c ∷ behind) .stop ≡ 0
     → ListsExactly mode (take (sizeOf c behind) behind) (s .rules) (answers mode (take (sizeOf c behind) behind) (s .rules))
     × (length (answers mode (take (sizeOf c behind) behind) (s .rules)) < s .room
-    → GoneOn call s (good (answers mode (take (sizeOf c behind) behind) (s .rules))) (onward s (sizeOf c behind) (tells (good (answers mode (take (sizeOf c behind) behind) (s .rules))) (s .rules)) behind))
+    → GoneOn call s (good (answers mode (take (sizeOf c behind) behind) (s .rules)))
+    (onward s (sizeOf c behind) (tells (good (answers mode (take (sizeOf c behind) behind) (s .rules))) (s .rules)) behind))
 demand-2 {call} {s} {c} {behind} at mode is z =
     (record { exactly = lists mode q (s .rules) w (limits at .whole); in-order = ordered mode q (s .rules); few = never-more mode q (s .rules) }, there)
   where
@@ -235,7 +250,8 @@ demand-2 {call} {s} {c} {behind} at mode is z =
         does-act (s .rules) behind (commandIn (c ∷ behind)) z ∙ ap (λ (a : Act). acts a (s .rules) (commandIn (c ∷ behind) .number) q) act
         ∙ ap (λ (m : Mode). tells (good (answers m q (s .rules))) (s .rules)) (mode-is mode)
 
-    there : length (answers mode q (s .rules)) < s .room → GoneOn call s (good (answers mode q (s .rules))) (onward s (sizeOf c behind) (tells (good (answers mode q (s .rules))) (s .rules)) behind)
+    there : length (answers mode q (s .rules)) < s .room
+        → GoneOn call s (good (answers mode q (s .rules))) (onward s (sizeOf c behind) (tells (good (answers mode q (s .rules))) (s .rules)) behind)
     there l =
         let f : length (effectOf s c behind .answer .cells) < s .room = subst (λ (x : Effect). length (x .answer .cells) < s .room) (sym same) l in
         subst (λ (x : Effect). GoneOn call s (x .answer) (onward s (sizeOf c behind) x behind)) same (gone-on at f z)
@@ -259,7 +275,8 @@ written-front : {o : Outcome} {ws ws′ out out′ : List ℕ} {stop used n : �
 written-front {o} {ws} {ws′} {out} {out′} {stop} {used} {n} x = ap (take n) (x .output) ∙ take-at (written (o .records)) (drop n out) n (sym (x .written-is))
 
 -- Two memories that hold the same rules, the same commands, the same room.
-pub demand-3 : {ws vs ws′ vs′ cells out out′ seen seen′ : List ℕ} {stop used n stop′ used′ n′ : ℕ} → Passing ws → Passing vs → rulesIn ws ≡ rulesIn vs → length out ≡ length seen
+pub demand-3 : {ws vs ws′ vs′ cells out out′ seen seen′ : List ℕ} {stop used n stop′ used′ n′ : ℕ} → Passing ws → Passing vs → rulesIn ws ≡ rulesIn vs
+    → length out ≡ length seen
     → Runs ws ws′ cells out out′ stop used n → Runs vs vs′ cells seen seen′ stop′ used′ n′ → Alike ws′ out′ stop used n vs′ seen′ stop′ used′ n′
 demand-3 {ws} {vs} {ws′} {vs′} {cells} {out} {out′} {seen} {seen′} p q same room r s =
     let x = passing r p in
@@ -288,7 +305,8 @@ history-passes (emptied {before} {ws} e) = go (ℕ-discrete (length before) book
 history-passes (batch {ws} {ws′} h r) = passing r (history-passes h) .book .passes
 
 -- Two histories that end with the same rules: the same call with the same room gives the same answers in both, and leaves the same rules again.
-pub demand-3-histories : {ws vs ws′ vs′ cells out out′ seen seen′ : List ℕ} {stop used n stop′ used′ n′ : ℕ} → History ws → History vs → rulesIn ws ≡ rulesIn vs → length out ≡ length seen
+pub demand-3-histories : {ws vs ws′ vs′ cells out out′ seen seen′ : List ℕ} {stop used n stop′ used′ n′ : ℕ} → History ws → History vs
+    → rulesIn ws ≡ rulesIn vs → length out ≡ length seen
     → Runs ws ws′ cells out out′ stop used n → Runs vs vs′ cells seen seen′ stop′ used′ n′ → Alike ws′ out′ stop used n vs′ seen′ stop′ used′ n′
 demand-3-histories g h same room r s = demand-3 (history-passes g) (history-passes h) same room r s
 

@@ -38,7 +38,8 @@ module _ {before name : List ℕ} {refusal number : ℕ} {after : List ℕ} (cal
   only : (r : ℕ) (P : Type 0) → ((a : Entry) → Given before name a → entryRefusal a ≡ r → P) → refusal ≡ r → P
   only r P f e = f (call .answer) (given (call .enters)) (sym (call .refusal-is) ∙ e)
 
-  refuses : (a : Entry) {P : Type 0} → (P → Given before name a) → ((b : Entry) → Given before name b → entryRefusal b ≡ entryRefusal a → P) → Exactly (refusal ≡ entryRefusal a) P (Gave (entryRefusal a) (entryNumber a) (tableAfter before name a))
+  refuses : (a : Entry) {P : Type 0} → (P → Given before name a) → ((b : Entry) → Given before name b → entryRefusal b ≡ entryRefusal a → P)
+      → Exactly (refusal ≡ entryRefusal a) P (Gave (entryRefusal a) (entryNumber a) (tableAfter before name a))
   refuses a {P} f h = ((only (entryRefusal a) P h, λ p. gave a (f p) .refusal-is), λ p. gave a (f p))
 
   pub enter-1 : Exactly (refusal ≡ 1) (¬ (Passes before)) (Gave 1 0 before)
@@ -75,7 +76,8 @@ module _ {before name : List ℕ} {refusal number : ℕ} {after : List ℕ} (cal
   pub enter-held : (names : List (List ℕ)) (free k : ℕ) → Holds before names free → k < length names → getD names k [] ≡ name → Gave 0 k before
   enter-held names free k h l e = gave (Held k) (held h l e)
 
-  pub enter-new : (names : List (List ℕ)) (free : ℕ) → Holds before names free → IsName name → Missing names name → 0 < free → Gave 0 (length names) (put before (length names) name)
+  pub enter-new : (names : List (List ℕ)) (free : ℕ) → Holds before names free → IsName name → Missing names name → 0 < free
+      → Gave 0 (length names) (put before (length names) name)
   enter-new names free h n m z = gave (New (length names)) (new h n m z refl)
 
 -- ---- the name of a number

@@ -225,7 +225,8 @@ module _ (rules : Rules) (kind number : ℕ) (low : number < 4096) (behind : Lis
 
   -- only an add or a remove changes anything
   pub told-only : 2 ≤ kind → effect .changes ≡ []
-  told-only h = any-effect rules behind here (λ e. e .changes ≡ []) (subst (λ (a : Act). acts a rules (here .number) term .changes ≡ []) (sym (act-is row number behind)) (go (row .act) refl)) refl
+  told-only h = any-effect rules behind here (λ e. e .changes ≡ [])
+      (subst (λ (a : Act). acts a rules (here .number) term .changes ≡ []) (sym (act-is row number behind)) (go (row .act) refl)) refl
     where
       neither : changesBook (row .act) ≡ true → ⊥
       neither e = let l = changes-below-2 kind e in omega arith
@@ -281,7 +282,8 @@ ends-so : (fuel : ℕ) (rules : Rules) (cells : List ℕ) (room : ℕ) → lengt
 ends-so zero rules [] room h = none-left rules room
 ends-so zero rules (c ∷ behind) room h = absurd (omega arith)
 ends-so (suc fuel) rules [] room h = none-left rules room
-ends-so (suc fuel) rules (c ∷ behind) room h = go (λ r cells k l. ends-so fuel r cells k l) (decLt (length (e .answer .cells)) room) (stop-range (kindAt (c / 4096)) (c % 4096) behind)
+ends-so (suc fuel) rules (c ∷ behind) room h = go (λ r cells k l. ends-so fuel r cells k l) (decLt (length (e .answer .cells)) room)
+    (stop-range (kindAt (c / 4096)) (c % 4096) behind)
   where
     x : Command
     x = commandIn (c ∷ behind)
@@ -295,13 +297,19 @@ ends-so (suc fuel) rules (c ∷ behind) room h = go (λ r cells k l. ends-so fue
     left : length (drop (x .size) behind) ≡ length behind - x .size
     left = length-drop (x .size) behind
 
-    more : Ends (run (e .rules) (drop (x .size) behind) (room - suc (length (e .answer .cells)))) (length (drop (x .size) behind)) → Ends (goesOn (suc (x .size)) e (run (e .rules) (drop (x .size) behind) (room - suc (length (e .answer .cells))))) (suc (length behind))
+    more : Ends (run (e .rules) (drop (x .size) behind) (room - suc (length (e .answer .cells)))) (length (drop (x .size) behind))
+        → Ends (goesOn (suc (x .size)) e (run (e .rules) (drop (x .size) behind) (room - suc (length (e .answer .cells))))) (suc (length behind))
     more r = record { number = r .number; all = λ z. let u = r .all z in omega (arith, left, size); not-all = λ z. let u = r .not-all z in omega (arith, left, size) }
 
-    go : ((r : Rules) (cells : List ℕ) (k : ℕ) → length cells ≤ fuel → Ends (run r cells k) (length cells)) → Dec (length (e .answer .cells) < room) → (x .stop ≡ 0) ⊎ ((2 ≤ x .stop) × (x .stop ≤ 5)) → Ends (run rules (c ∷ behind) room) (suc (length behind))
-    go ih (no n) s = subst (λ (o : Outcome). Ends o (suc (length behind))) (sym (run-10 rules c behind room (omega arith))) (record { number = inr (inr refl); all = λ z. absurd (omega arith); not-all = λ z. omega arith })
-    go ih (yes l) (inr s) = subst (λ (o : Outcome). Ends o (suc (length behind))) (sym (run-stops rules c behind room l (λ z. absurd (let a = s .0 in omega arith)))) (record { number = inr (inl s); all = λ z. absurd (let a = s .0 in omega arith); not-all = λ z. omega arith })
-    go ih (yes l) (inl s) = subst (λ (o : Outcome). Ends o (suc (length behind))) (sym (run-goes-on rules c behind room l s)) (more (ih (e .rules) (drop (x .size) behind) (room - suc (length (e .answer .cells))) (omega (arith, left))))
+    go : ((r : Rules) (cells : List ℕ) (k : ℕ) → length cells ≤ fuel → Ends (run r cells k) (length cells)) → Dec (length (e .answer .cells) < room)
+        → (x .stop ≡ 0) ⊎ ((2 ≤ x .stop) × (x .stop ≤ 5)) → Ends (run rules (c ∷ behind) room) (suc (length behind))
+    go ih (no n) s = subst (λ (o : Outcome). Ends o (suc (length behind))) (sym (run-10 rules c behind room (omega arith)))
+        (record { number = inr (inr refl); all = λ z. absurd (omega arith); not-all = λ z. omega arith })
+    go ih (yes l) (inr s) = subst (λ (o : Outcome). Ends o (suc (length behind)))
+        (sym (run-stops rules c behind room l (λ z. absurd (let a = s .0 in omega arith))))
+        (record { number = inr (inl s); all = λ z. absurd (let a = s .0 in omega arith); not-all = λ z. omega arith })
+    go ih (yes l) (inl s) = subst (λ (o : Outcome). Ends o (suc (length behind))) (sym (run-goes-on rules c behind room l s))
+        (more (ih (e .rules) (drop (x .size) behind) (room - suc (length (e .answer .cells))) (omega (arith, left))))
 
 pub batch-ends : (rules : Rules) (cells : List ℕ) (room : ℕ) → Ends (run rules cells room) (length cells)
 batch-ends rules cells room = ends-so (length cells) rules cells room (omega arith)

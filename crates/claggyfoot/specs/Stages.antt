@@ -59,7 +59,8 @@ abbrev pub from : Stage → Outcome → Outcome
 from s o = record { stop = o .stop; used = s .used + o .used; records = s .records ++ o .records; rules = o .rules; changes = s .changes ++ o .changes }
 
 same-outcome : (stop : ℕ) (rules : Rules) {u v : ℕ} {rs qs : List Record} {cs ds : List Change} → u ≡ v → rs ≡ qs → cs ≡ ds
-    → _≡_ {A = Outcome} (record { stop = stop; used = u; records = rs; rules = rules; changes = cs }) (record { stop = stop; used = v; records = qs; rules = rules; changes = ds })
+    → _≡_ {A = Outcome} (record { stop = stop; used = u; records = rs; rules = rules; changes = cs })
+    (record { stop = stop; used = v; records = qs; rules = rules; changes = ds })
 same-outcome stop rules {u} {v} {rs} {qs} {cs} {ds} e f g = cc
 
 pub reached : {rules : Rules} {cells : List ℕ} {room : ℕ} {s : Stage} → Reaches rules cells room s → run rules cells room ≡ from s (run (s .rules) (s .cells) (s .room))
@@ -156,7 +157,8 @@ pub record MemoryAt (ws ws′ : List ℕ) (s : Stage) (m : List ℕ) : Type 0 wh
   pub so-far : Along (s .changes) ws m
   pub to-come : Along (run (s .rules) (s .cells) (s .room) .changes) m ws′
 
-pub memory-at : {ws ws′ cells : List ℕ} {room : ℕ} {s : Stage} → Passing ws → Along (run (rulesIn ws) cells room .changes) ws ws′ → Reaches (rulesIn ws) cells room s → (m : List ℕ) × MemoryAt ws ws′ s m
+pub memory-at : {ws ws′ cells : List ℕ} {room : ℕ} {s : Stage} → Passing ws → Along (run (rulesIn ws) cells room .changes) ws ws′
+    → Reaches (rulesIn ws) cells room s → (m : List ℕ) × MemoryAt ws ws′ s m
 memory-at {ws} {ws′} {cells} {room} {s} p a r =
     let x = parted (s .changes) (run (s .rules) (s .cells) (s .room) .changes) (subst (λ (o : Outcome). Along (o .changes) ws ws′) (reached r) a) in
     (x .0, record { passes = along-passes (x .1) p; rules-are = along-rules (x .1) ∙ sym (stage-rules r); so-far = x .1; to-come = x .2 })

@@ -30,8 +30,10 @@ abbrev pub emptyBook : List ℕ
 emptyBook = replicate bookWords 0
 
 -- What a batch on it comes to.
-came : {ws′ cells out out′ : List ℕ} {stop used n : ℕ} → Runs emptyBook ws′ cells out out′ stop used n → Came (run noRules cells (length out)) emptyBook ws′ out out′ stop used n
-came {ws′} {cells} {out} {out′} {stop} {used} {n} r = subst (λ (x : Rules). Came (run x cells (length out)) emptyBook ws′ out out′ stop used n) empty-rules (passing r empty-passes)
+came : {ws′ cells out out′ : List ℕ} {stop used n : ℕ} → Runs emptyBook ws′ cells out out′ stop used n
+    → Came (run noRules cells (length out)) emptyBook ws′ out out′ stop used n
+came {ws′} {cells} {out} {out′} {stop} {used} {n} r = subst (λ (x : Rules). Came (run x cells (length out)) emptyBook ws′ out out′ stop used n)
+    empty-rules (passing r empty-passes)
 
 -- The cells: room; add rule 5, the pattern that is a variable; then show it, or list its instances.
 abbrev pub room : List ℕ
@@ -176,7 +178,8 @@ module _ {ws ws′ out′ : List ℕ} {stop used n : ℕ} (p : Passing ws) (is :
 
   few : (node : ℕ) → node ≤ nodesLimit → tally u node ≤ 1
   few node h =
-      let all : tally u node ≤ tally u 4096 = subst (λ (z : ℕ). tally u node ≤ tally u z) (let e : 4096 - node + node ≡ 4096 = omega arith in e) (no-fewer u node (4096 - node)) in
+      let all : tally u node ≤ tally u 4096 = subst (λ (z : ℕ). tally u node ≤ tally u z) (let e : 4096 - node + node ≡ 4096 = omega arith in e)
+      (no-fewer u node (4096 - node)) in
       let e = before in omega arith
 
   pub takes-another-node : (node : ℕ) → 1 < node → node < nodesLimit → ¬ (InUse ws′ node)

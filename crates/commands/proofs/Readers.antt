@@ -59,7 +59,8 @@ module _ {M : Type 1} (𝓤 : URA M) (H : Heap 𝓤) (A : Atoms 𝓤) (W : Given
   reader-apart low =
       qed W (‵ Own ∷ []) ∵
       use1 W (given (w ∷ [] ≡ T′.lowered d ∷ []) (‵ (all-own (D (κ, tt) .parts) (L (κ, tt)) fields))) (own-open 𝓤 H A W (D (κ, tt)) (L (κ, tt)) fields w) $ learn ! (λ _.
-      use1 W (‵ (ownAt (D (κ, tt) .parts) (L (κ, tt)) 0 (d .cells)) ⊛ ‵ (rest (D (κ, tt) .parts) (L (κ, tt)) 0 fields)) (own-out 𝓤 H A W (D (κ, tt) .parts) (L (κ, tt)) 0 fields) $
+      use1 W (‵ (ownAt (D (κ, tt) .parts) (L (κ, tt)) 0 (d .cells)) ⊛ ‵ (rest (D (κ, tt) .parts) (L (κ, tt)) 0 fields))
+      (own-out 𝓤 H A W (D (κ, tt) .parts) (L (κ, tt)) 0 fields) $
       split ! $ move ! (1 ∷ []) $ drop ! $
       nothing ! $ owned ! usize (Is usize) (uint-makes 𝓤 H A W w64) (d .at) _ (refl, low) $ fjoin ! $ move ! (1 ∷ 0 ∷ []) $ fjoin ! $ done !)
 

@@ -131,7 +131,8 @@ abbrev pub every : (ℕ → Kind → Bool) → ℕ → List Kind → Bool
 every test k [] = true
 every test k (row ∷ rows) = both (test k row) (every test (suc k) rows)
 
-at-each : (test : ℕ → Kind → Bool) (rows : List Kind) (from : ℕ) → ((k : ℕ) → length rows + from ≤ k → test k unknown ≡ true) → every test from rows ≡ true → (k : ℕ) → test (k + from) (rowAt rows k) ≡ true
+at-each : (test : ℕ → Kind → Bool) (rows : List Kind) (from : ℕ) → ((k : ℕ) → length rows + from ≤ k → test k unknown ≡ true)
+    → every test from rows ≡ true → (k : ℕ) → test (k + from) (rowAt rows k) ≡ true
 at-each test [] from u e k = u (k + from) (omega arith)
 at-each test (row ∷ rows) from u e zero = subst (λ (n : ℕ). test n row ≡ true) (let z : from ≡ 0 + from = omega arith in z) (of-both (test from row) _ e .0)
 at-each test (row ∷ rows) from u e (suc k) =

@@ -67,7 +67,8 @@ fault-3 behind = ((λ x. to (x .0) (x .1) (x .2) (x .3)), (λ x. (CutShort, x .0
 pub fault-4 : (behind : List ℕ) → FaultIs 4 behind ↔ (Faulty FieldSet behind ⊎ (Faulty AboveFifteen behind ⊎ Faulty AboveCount behind))
 fault-4 behind = ((λ x. to (x .0) (x .1) (x .2) (x .3)), of)
   where
-    to : (fault : Fault) (place : ℕ) → readTerm behind ≡ Refused fault place → refusalOf fault ≡ 4 → Faulty FieldSet behind ⊎ (Faulty AboveFifteen behind ⊎ Faulty AboveCount behind)
+    to : (fault : Fault) (place : ℕ) → readTerm behind ≡ Refused fault place → refusalOf fault ≡ 4
+        → Faulty FieldSet behind ⊎ (Faulty AboveFifteen behind ⊎ Faulty AboveCount behind)
     to CutShort place e f = absurd (omega arith)
     to TooLong place e f = absurd (omega arith)
     to FieldSet place e f = inl (place, e)
@@ -125,7 +126,8 @@ module _ (k : Kind) (number : ℕ) (behind : List ℕ) where
       right : isWrong k number ≡ false → ¬ (Wrong k number)
       right e w = true≢false (wrong-of (k .known) (k .zero) number w) e
 
-      go : (b : Bool) → isWrong k number ≡ b → (t : Bool) → k .term ≡ t → (r : Reading) → readTerm behind ≡ r → Says (pick b (commandWith k number 0 2) (pick t (withTerm k number r) (commandWith k number 0 0)))
+      go : (b : Bool) → isWrong k number ≡ b → (t : Bool) → k .term ≡ t → (r : Reading) → readTerm behind ≡ r
+          → Says (pick b (commandWith k number 0 2) (pick t (withTerm k number r) (commandWith k number 0 0)))
       go true e t f r q = wrong (wrong-to (k .known) (k .zero) number e)
       go false e true f (Whole size) q = whole size (f, right e) q
       go false e true f (Refused fault place) q = faulty fault place (f, right e) q
@@ -233,15 +235,19 @@ read-of kind number behind low = go (commandOf kind number behind) (said (kindAt
   where
     go : (c : Command) → Said (kindAt kind) number behind c → Read behind c
     go c (wrong w) = record { number-low = low; stop-low = omega arith; inside = omega arith; whole = λ e a. absurd (omega arith) }
-    go c (faulty fault place t q) = record { number-low = low; stop-low = low-fault fault; inside = omega arith; whole = λ e a. absurd (let l = fault-low fault in omega arith) }
+    go c (faulty fault place t q) = record
+        { number-low = low; stop-low = low-fault fault; inside = omega arith; whole = λ e a. absurd (let l = fault-low fault in omega arith) }
     go c (whole size t q) = record { number-low = low; stop-low = omega arith; inside = whole-term behind size q .inside; whole = λ e a. q }
     go c (plain f n) = record { number-low = low; stop-low = omega arith; inside = omega arith; whole = λ e a. absurd (true≢false (term-is kind ∙ a) f) }
 
 -- ---- the command at a place of the cells
 
 -- the cells from a place on are the cell there and those behind it
-pub first-cell : (cells : List ℕ) (at : ℕ) → at < length cells → commandIn (drop at cells) ≡ commandOf (getD cells at 0 / 4096) (getD cells at 0 % 4096) (drop (at + 1) cells)
-first-cell cells at h = ap commandIn (drop-cons cells at 0 h) ∙ ap (λ (n : ℕ). commandOf (getD cells at 0 / 4096) (getD cells at 0 % 4096) (drop n cells)) (let e : suc at ≡ at + 1 = omega arith in e)
+pub first-cell : (cells : List ℕ) (at : ℕ) → at < length cells
+    → commandIn (drop at cells) ≡ commandOf (getD cells at 0 / 4096) (getD cells at 0 % 4096) (drop (at + 1) cells)
+first-cell cells at h = ap commandIn (drop-cons cells at 0 h)
+    ∙ ap (λ (n : ℕ). commandOf (getD cells at 0 / 4096) (getD cells at 0 % 4096) (drop n cells)) (let e : suc at ≡ at + 1 = omega arith in e)
 
 pub read-at : (cells : List ℕ) (at : ℕ) → at < length cells → Read (drop (at + 1) cells) (commandIn (drop at cells))
-read-at cells at h = subst (Read (drop (at + 1) cells)) (sym (first-cell cells at h)) (read-of (getD cells at 0 / 4096) (getD cells at 0 % 4096) (drop (at + 1) cells) (omega arith))
+read-at cells at h = subst (Read (drop (at + 1) cells)) (sym (first-cell cells at h))
+    (read-of (getD cells at 0 / 4096) (getD cells at 0 % 4096) (drop (at + 1) cells) (omega arith))

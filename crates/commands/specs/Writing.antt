@@ -51,7 +51,8 @@ module _ (r : Record) (x : ℕ) (first : x ≡ 4096 * r .refusal + length (r .ce
 
 pub bare-written : (refusal x : ℕ) (out : List ℕ) → 0 < length out → x ≡ 4096 * refusal → Writes (bare refusal) out (set out 0 x) 1
 bare-written refusal x [] h e = absurd (omega arith)
-bare-written refusal x (o ∷ os) h e = record { fits = λ _. (refl, ap (λ (a : ℕ). a ∷ os) (let z : x ≡ 4096 * refusal + 0 = omega arith in z)); short = λ l. absurd (omega arith) }
+bare-written refusal x (o ∷ os) h e = record
+    { fits = λ _. (refl, ap (λ (a : ℕ). a ∷ os) (let z : x ≡ 4096 * refusal + 0 = omega arith in z)); short = λ l. absurd (omega arith) }
 
 pub two-written : (a b x y : ℕ) (out : List ℕ) → 2 < length out → x ≡ a → y ≡ b → Writes (good (a ∷ b ∷ [])) out (set (set (set out 0 2) 1 x) 2 y) 3
 two-written a b x y [] h e f = absurd (omega arith)

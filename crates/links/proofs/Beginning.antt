@@ -38,4 +38,5 @@ module _ (ws : List ℕ) (p c x v : ℕ) (r : Ready ws p) (n : ¬ (x ≡ 0)) (e 
 
           by : (y ≡ x) ⊎ Further (shape ws) (word ws x) (c - 1) y → Before (shape ws) p y c
           by (inl d) = subst (λ (i : ℕ). Before (shape ws) p i c) (sym (d ∙ q)) (record { valid = g .used; under = g .under; above = omega (arith, same, l) })
-          by (inr f) = subst (λ (i : ℕ). Before (shape ws) p i c) (sym (f .leads)) (record { valid = f .used; under = f .beside ∙ sym parents ∙ g .under; above = let h = f .near in omega (arith, l) })
+          by (inr f) = subst (λ (i : ℕ). Before (shape ws) p i c) (sym (f .leads))
+              (record { valid = f .used; under = f .beside ∙ sym parents ∙ g .under; above = let h = f .near in omega (arith, l) })

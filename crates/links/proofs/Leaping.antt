@@ -11,7 +11,8 @@ use Rattle.bits.specs.Packed.{bits}
 use Rattle.links.specs.Words.{cellOf, parentOf, shape}
 use Rattle.links.specs.Siblings.{Further}
 
-pub looked-at : (ws : List ℕ) (w most f : ℕ) → ¬ (f ≡ 0) → (a b c d e : ℕ) → a ≡ parentOf (getD ws (linksAt + f) 0) → b ≡ parentOf w → a ≡ b → c ≡ cellOf (getD ws (linksAt + f) 0) → d ≡ cellOf w → d < c
+pub looked-at : (ws : List ℕ) (w most f : ℕ) → ¬ (f ≡ 0) → (a b c d e : ℕ) → a ≡ parentOf (getD ws (linksAt + f) 0) → b ≡ parentOf w → a ≡ b
+    → c ≡ cellOf (getD ws (linksAt + f) 0) → d ≡ cellOf w → d < c
     → e ≡ cellOf (getD ws (linksAt + f) 0) → e ≤ most → (r : Bool) → r ≡ eqb (getD (bits (take mapWords ws)) (f - 1) 0) 1 → r ≡ true → Further (shape ws) w most f
 looked-at ws w most zero n a b c d e ea eb ab ec ed dc ee em r er rt = absurd (n refl)
 looked-at ws w most (suc k) n a b c d e ea eb ab ec ed dc ee em r er rt = record {

@@ -35,7 +35,8 @@ same-bit a b j k e f = ap (λ (x : ℕ). eqb x 1)
     (get-bit a j ∙ ap (λ (w : ℕ). w / 2 ^ (63 - j % 64) % 2) e ∙ ap (λ (s : ℕ). getD b (k / 64) 0 / 2 ^ (63 - s) % 2) f ∙ sym (get-bit b k))
 
 pub node-bit : (ws : List ℕ) (n : ℕ) → n < nodesLimit → marked (nodeMap ws) n ≡ shape ws .used n
-node-bit ws n h = same-bit (take nodeMapWords ws) (take mapWords ws) n n (getD-take nodeMapWords ws (n / 64) 0 (omega arith) ∙ sym (getD-take mapWords ws (n / 64) 0 (omega arith))) refl
+node-bit ws n h = same-bit (take nodeMapWords ws) (take mapWords ws) n n
+    (getD-take nodeMapWords ws (n / 64) 0 (omega arith) ∙ sym (getD-take mapWords ws (n / 64) 0 (omega arith))) refl
 
 pub rule-bit : (ws : List ℕ) (r : ℕ) → r < rulesLimit → marked (ruleMap ws) r ≡ shape ws .used (nodesLimit + r)
 rule-bit ws r h = same-bit (ruleMap ws) (take mapWords ws) r (nodesLimit + r)
@@ -56,7 +57,8 @@ module _ (ws : List ℕ) (size : length ws ≡ treeWords) where
     where
       go : Dec (n < lastLink) → n < lastLink
       go (yes h) = h
-      go (no h) = absurd (true≢false u (ap (λ (x : ℕ). eqb x 1) (List·getD-eq-default (bits (take mapWords ws)) 0 (omega (arith, length-bits (take mapWords ws), map-long)))))
+      go (no h) = absurd (true≢false u
+          (ap (λ (x : ℕ). eqb x 1) (List·getD-eq-default (bits (take mapWords ws)) 0 (omega (arith, length-bits (take mapWords ws), map-long)))))
 
   pub live-low : (l : ℕ) → Live (shape ws) l → l ≤ lastLink
   live-low zero v = omega arith
@@ -68,7 +70,8 @@ module _ (ws : List ℕ) (size : length ws ≡ treeWords) where
 
   -- the count of the set bits is the number of used nodes, of rules that hang, and of both
   pub nodes-held : sum (bits (nodeMap ws)) ≡ tally (shape ws .used) nodesLimit
-  nodes-held = marks-held (nodeMap ws) nodeMapWords (omega (arith, length-take nodeMapWords ws)) ∙ tally-same (shape ws .used) (marked (nodeMap ws)) nodesLimit (λ n h. node-bit ws n h)
+  nodes-held = marks-held (nodeMap ws) nodeMapWords (omega (arith, length-take nodeMapWords ws))
+      ∙ tally-same (shape ws .used) (marked (nodeMap ws)) nodesLimit (λ n h. node-bit ws n h)
 
   pub rules-held : sum (bits (ruleMap ws)) ≡ tally (λ r. shape ws .used (nodesLimit + r)) rulesLimit
   rules-held =
@@ -101,7 +104,8 @@ empty-words ws h = (free, empty-passes (shape ws) free (let e = h linksAt (omega
 
     free : (n : ℕ) → shape ws .used n ≡ false
     free n = ap (λ (x : ℕ). eqb x 1)
-        (get-bit (take mapWords ws) n ∙ ap (λ (w : ℕ). w / 2 ^ (63 - n % 64) % 2) (word-zero (n / 64) (decLt (n / 64) mapWords)) ∙ ap (λ (x : ℕ). x % 2) (zero-div (2 ^ (63 - n % 64))))
+        (get-bit (take mapWords ws) n ∙ ap (λ (w : ℕ). w / 2 ^ (63 - n % 64) % 2) (word-zero (n / 64) (decLt (n / 64) mapWords))
+        ∙ ap (λ (x : ℕ). x % 2) (zero-div (2 ^ (63 - n % 64))))
 
 -- the word of a link lies within the memory
 pub at-fits : {l : ℕ} → l ≤ lastLink → InWord w64 (linksAt + l)

@@ -37,9 +37,11 @@ first-of first n rest e =
     first-record first rest ∙ ap₂ (λ (t l : List ℕ). record { refusal = first / 4096; cells = t } ∷ recordsIn l) taken left
 
 pub record-at : (cells : List ℕ) (place n : ℕ) → place < length cells → n ≡ min (getD cells place 0 % 4096) (length cells - (place + 1))
-    → recordsIn (drop place cells) ≡ record { refusal = getD cells place 0 / 4096; cells = take (place + 1 + n - (place + 1)) (drop (place + 1) cells) } ∷ recordsIn (drop (place + 1 + n) cells)
+    → recordsIn (drop place cells)
+    ≡ record { refusal = getD cells place 0 / 4096; cells = take (place + 1 + n - (place + 1)) (drop (place + 1) cells) } ∷ recordsIn (drop (place + 1 + n) cells)
 record-at cells place n h e =
     let t : n ≡ place + 1 + n - (place + 1) = omega arith in
     ap recordsIn (one-more cells place h)
     ∙ first-of (getD cells place 0) n (drop (place + 1) cells) (e ∙ ap (min (getD cells place 0 % 4096)) (sym (length-drop (place + 1) cells)))
-    ∙ ap₂ (λ (k : ℕ) (l : List ℕ). record { refusal = getD cells place 0 / 4096; cells = take k (drop (place + 1) cells) } ∷ recordsIn l) t (drop-drop n (place + 1) cells)
+    ∙ ap₂ (λ (k : ℕ) (l : List ℕ). record { refusal = getD cells place 0 / 4096; cells = take k (drop (place + 1) cells) } ∷ recordsIn l) t
+    (drop-drop n (place + 1) cells)

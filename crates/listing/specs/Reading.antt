@@ -43,11 +43,14 @@ reads-written (more {r} {rs} h i s) =
     let count : c % 4096 ≡ n = omega arith in
     first-record c (r .cells ++ written rs)
     ∙ ap (λ (k : ℕ). record { refusal = c / 4096; cells = take k (r .cells ++ written rs) } ∷ recordsIn (drop k (r .cells ++ written rs))) count
-    ∙ made (c / 4096) (take n (r .cells ++ written rs)) (drop n (r .cells ++ written rs)) refusal (take-append-seam (r .cells) (written rs)) (drop-append-seam (r .cells) (written rs))
+    ∙ made (c / 4096) (take n (r .cells ++ written rs)) (drop n (r .cells ++ written rs)) refusal (take-append-seam (r .cells) (written rs))
+    (drop-append-seam (r .cells) (written rs))
     ∙ ap (λ (l : List Record). r ∷ l) (reads-written s)
   where
-    made : (k : ℕ) (taken left : List ℕ) → k ≡ r .refusal → taken ≡ r .cells → left ≡ written rs → record { refusal = k; cells = taken } ∷ recordsIn left ≡ r ∷ recordsIn (written rs)
-    made k taken left a b d = ap (λ (k : ℕ). record { refusal = k; cells = taken } ∷ recordsIn left) a ∙ ap (λ (l : List ℕ). record { refusal = r .refusal; cells = l } ∷ recordsIn left) b ∙ ap (λ (l : List ℕ). r ∷ recordsIn l) d
+    made : (k : ℕ) (taken left : List ℕ) → k ≡ r .refusal → taken ≡ r .cells → left ≡ written rs
+        → record { refusal = k; cells = taken } ∷ recordsIn left ≡ r ∷ recordsIn (written rs)
+    made k taken left a b d = ap (λ (k : ℕ). record { refusal = k; cells = taken } ∷ recordsIn left) a
+        ∙ ap (λ (l : List ℕ). record { refusal = r .refusal; cells = l } ∷ recordsIn left) b ∙ ap (λ (l : List ℕ). r ∷ recordsIn l) d
 
 -- Cells of 16 bits, at most 4,096 of them: whatever records they are, each fits.
 pub sound : (rs : List Record) → length (written rs) ≤ 4096 → ((i : ℕ) → getD (written rs) i 0 < 65536) → Sound rs

@@ -81,7 +81,8 @@ module _ (t : List ℕ) (s n : ℕ) (first : n ≡ getD t (32 * s) 0) (some : n 
     module _ (seen : List ℕ) (so : Sofar t seen s) where
       held-slot : (k : ℕ) → k < s → take 32 (drop (32 * k) t) ≡ slotOf (getD (so .begins .names) k [])
       held-slot k l =
-          ap (λ (x : List ℕ). take 32 (drop (32 * k) x)) (so .begins .written) ∙ slot-used (so .begins .names) (drop (32 * s) t) k (so .begins .named) (omega (arith, so .begins .count))
+          ap (λ (x : List ℕ). take 32 (drop (32 * k) x)) (so .begins .written)
+          ∙ slot-used (so .begins .names) (drop (32 * s) t) k (so .begins .named) (omega (arith, so .begins .count))
 
       pub new-by-hash : (Met seen (hashOf (nameHere t s n)) → ⊥) → Missing (so .begins .names) (nameHere t s n)
       new-by-hash f k l e = f (subst (λ (x : List ℕ). Met seen (hashOf x)) e (so .marks k (omega (arith, so .begins .count))))
@@ -116,7 +117,8 @@ module _ (t : List ℕ) (s n : ℕ) (first : n ≡ getD t (32 * s) 0) (some : n 
       sofar-more m after e = record { begins = begins-more m; marks = λ k l. go k l (decLt k s) }
         where
           go : (k : ℕ) → k < s + 1 → Dec (k < s) → Met after (hashOf (getD (so .begins .names ++ (u .name ∷ [])) k []))
-          go k l (yes y) = e .kept _ (subst (λ (x : List ℕ). Met seen (hashOf x)) (sym (more-before (so .begins .names) (u .name) k (omega (arith, so .begins .count)))) (so .marks k y))
+          go k l (yes y) = e .kept _ (subst (λ (x : List ℕ). Met seen (hashOf x))
+              (sym (more-before (so .begins .names) (u .name) k (omega (arith, so .begins .count)))) (so .marks k y))
           go k l (no y) =
               subst (λ (x : List ℕ). Met after (hashOf x)) (name-is ∙ sym (more-last (so .begins .names) (u .name) k (omega (arith, so .begins .count)))) (e .here)
 

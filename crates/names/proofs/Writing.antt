@@ -22,7 +22,8 @@ module _ {t : List ℕ} {names : List (List ℕ)} {free : ℕ} (h : Holds t name
   found-none m k l e = d .before k (omega arith) (own-says t k (getD names k []) (slot-holds h k l) (h .named k l .short) name e)
 
 -- A name's length and bytes written over zeros.
-written-zeros : (a name : List ℕ) (m : ℕ) → paste (set (a ++ replicate (suc (length name + m)) 0) (length a) (length name)) (length a + 1) name (length name) ≡ a ++ (length name ∷ (name ++ replicate m 0))
+written-zeros : (a name : List ℕ) (m : ℕ)
+    → paste (set (a ++ replicate (suc (length name + m)) 0) (length a) (length name)) (length a + 1) name (length name) ≡ a ++ (length name ∷ (name ++ replicate m 0))
 written-zeros a name m =
     let n = length name in
     let r : List ℕ = replicate (n + m) 0 in
@@ -52,7 +53,8 @@ module _ {t : List ℕ} {names : List (List ℕ)} {free : ℕ} (h : Holds t name
   written-put held count =
       let size : 32 * held ≡ length (slotsOf names) = omega (arith, slots-length names (h .named)) in
       ap (λ (x : List ℕ). paste (set x (32 * held) (length name)) (32 * held + 1) name (length name)) whole
-      ∙ ap (λ (i : ℕ). paste (set (slotsOf names ++ replicate (suc (length name + (31 - length name + 32 * (free - 1)))) 0) i (length name)) (i + 1) name (length name)) size
+      ∙ ap (λ (i : ℕ). paste (set (slotsOf names ++ replicate (suc (length name + (31 - length name + 32 * (free - 1)))) 0) i (length name)) (i + 1)
+      name (length name)) size
       ∙ written-zeros (slotsOf names) name (31 - length name + 32 * (free - 1)) ∙ put-last ∙ ap (λ (k : ℕ). put t k name) count
 
 -- A part lies within the table.

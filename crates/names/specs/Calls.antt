@@ -57,7 +57,8 @@ tableAfter table name NoSlot = table
 
 -- The promise of `enter`: 1 for a table that doesn't pass, else that answer; and every byte of the table after it.
 pub data Enters (before name : List ℕ) (answer : Entry) (after : List ℕ) : Type 0 where
-  entered : {names : List (List ℕ)} {free : ℕ} → Holds before names free → answer ≡ entryIn names free name → after ≡ tableAfter before name answer → Enters before name answer after
+  entered : {names : List (List ℕ)} {free : ℕ} → Holds before names free → answer ≡ entryIn names free name → after ≡ tableAfter before name answer
+      → Enters before name answer after
   no-table : (Passes before → ⊥) → answer ≡ NoTable → after ≡ before → Enters before name answer after
 
 -- The refusal, and where in the table the name stands, for each answer of `part_of`; refused, 0 bytes from byte 0.
@@ -80,7 +81,8 @@ partSize NoNumber = 0
 pub data PartOf (table : List ℕ) (number : ℕ) : Part → Type 0 where
   bad-table : (Passes table → ⊥) → PartOf table number BadTable
   no-number : {names : List (List ℕ)} {free : ℕ} → Holds table names free → length names ≤ number → PartOf table number NoNumber
-  at : {names : List (List ℕ)} {free start size : ℕ} → Holds table names free → number < length names → start ≡ 32 * number + 1 → size ≡ length (getD names number []) → PartOf table number (At start size)
+  at : {names : List (List ℕ)} {free start size : ℕ} → Holds table names free → number < length names → start ≡ 32 * number + 1
+      → size ≡ length (getD names number []) → PartOf table number (At start size)
 
 -- The promise of `name_of`: the part of the table where the name stands.
 pub record NameIs (table : List ℕ) (number : ℕ) (name : List ℕ) : Type 0 where

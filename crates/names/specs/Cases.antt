@@ -64,7 +64,13 @@ is-name-decides name = go (ltb 0 n) (leb n 31) (printed name) (eqb (getD name 0 
     go : (a b c d e : Bool) → ltb 0 n ≡ a → leb n 31 ≡ b → printed name ≡ c → eqb (getD name 0 0) 32 ≡ d → eqb (getD name (n - 1) 0) 32 ≡ e
         → Decides (IsName name) (pick a (pick b (pick c (pick d false (pick e false true)) false) false) false)
     go true true true false false a b c d e = record {
-      yes = λ _. record { some = ltb-true 0 n a; short = leb-true n 31 b; printed = printed-yes name c; begins = eqb-false (getD name 0 0) 32 d; ends = eqb-false (getD name (n - 1) 0) 32 e };
+      yes = λ _. record {
+        some = ltb-true 0 n a;
+        short = leb-true n 31 b;
+        printed = printed-yes name c;
+        begins = eqb-false (getD name 0 0) 32 d;
+        ends = eqb-false (getD name (n - 1) 0) 32 e;
+      };
       no = λ q. wrong q;
     }
     go true true true false true a b c d e = no refl (λ x. x .ends (eqb-true (getD name (n - 1) 0) 32 e))
@@ -130,7 +136,8 @@ unfolding slotIn
 slot-has [] name l = absurd (omega arith)
 slot-has (x ∷ names) name l = go (same x name) refl l (slot-has names name)
   where
-    go : (b : Bool) → same x name ≡ b → pick b 0 (suc (slotIn names name)) < suc (length names) → (slotIn names name < length names → getD names (slotIn names name) [] ≡ name)
+    go : (b : Bool) → same x name ≡ b → pick b 0 (suc (slotIn names name)) < suc (length names)
+        → (slotIn names name < length names → getD names (slotIn names name) [] ≡ name)
         → getD (x ∷ names) (pick b 0 (suc (slotIn names name))) [] ≡ name
     go true q l ih = same-is x name q
     go false q l ih = ih (omega arith)
@@ -139,22 +146,26 @@ slot-has (x ∷ names) name l = go (same x name) refl l (slot-has names name)
 
 module _ {t : List ℕ} {names : List (List ℕ)} {free : ℕ} (h : Holds t names free) (name : List ℕ) where
   pub entry-no-name : (IsName name → ⊥) → entryIn names free name ≡ NoName
-  entry-no-name f = ap (λ (b : Bool). pick b (pick (ltb (slotIn names name) (length names)) (Held (slotIn names name)) (pick (ltb 0 free) (New (length names)) NoSlot)) NoName) (not-name name f)
+  entry-no-name f = ap (λ (b : Bool). pick b
+      (pick (ltb (slotIn names name) (length names)) (Held (slotIn names name)) (pick (ltb 0 free) (New (length names)) NoSlot)) NoName) (not-name name f)
 
   past : IsName name → entryIn names free name ≡ pick (ltb (slotIn names name) (length names)) (Held (slotIn names name)) (pick (ltb 0 free) (New (length names)) NoSlot)
-  past i = ap (λ (b : Bool). pick b (pick (ltb (slotIn names name) (length names)) (Held (slotIn names name)) (pick (ltb 0 free) (New (length names)) NoSlot)) NoName) (is-name name i)
+  past i = ap (λ (b : Bool). pick b
+      (pick (ltb (slotIn names name) (length names)) (Held (slotIn names name)) (pick (ltb 0 free) (New (length names)) NoSlot)) NoName) (is-name name i)
 
   pub entry-held : (k : ℕ) → k < length names → getD names k [] ≡ name → entryIn names free name ≡ Held k
   entry-held k l e =
       let s = slot-of names k name (h .apart) l e in
       past (subst IsName e (h .named k l))
-      ∙ ap (λ (b : Bool). pick b (Held (slotIn names name)) (pick (ltb 0 free) (New (length names)) NoSlot)) (lt-ltb (slotIn names name) (length names) (subst (λ (z : ℕ). z < length names) (sym s) l))
+      ∙ ap (λ (b : Bool). pick b (Held (slotIn names name)) (pick (ltb 0 free) (New (length names)) NoSlot))
+      (lt-ltb (slotIn names name) (length names) (subst (λ (z : ℕ). z < length names) (sym s) l))
       ∙ ap Held s
 
   missed : IsName name → Missing names name → entryIn names free name ≡ pick (ltb 0 free) (New (length names)) NoSlot
   missed i m =
       past i
-      ∙ ap (λ (b : Bool). pick b (Held (slotIn names name)) (pick (ltb 0 free) (New (length names)) NoSlot)) (le-ltb (slotIn names name) (length names) (let e = slot-missing names name m in omega arith))
+      ∙ ap (λ (b : Bool). pick b (Held (slotIn names name)) (pick (ltb 0 free) (New (length names)) NoSlot))
+      (le-ltb (slotIn names name) (length names) (let e = slot-missing names name m in omega arith))
 
   pub entry-new : IsName name → Missing names name → 0 < free → entryIn names free name ≡ New (length names)
   entry-new i m z = missed i m ∙ ap (λ (b : Bool). pick b (New (length names)) NoSlot) (lt-ltb 0 free z)
@@ -174,7 +185,8 @@ module _ {t : List ℕ} {names : List (List ℕ)} {free : ℕ} (h : Holds t name
       go false b c e f g = no-name (record { names = names; free = free; holds = h }) (is-name-decides name .no e)
       go true true c e f g = let l = ltb-true (slotIn names name) (length names) f in held h l (slot-has names name l)
       go true false true e f g = new h (is-name-decides name .yes e) (missing f) (ltb-true 0 free g) refl
-      go true false false e f g = no-slot (subst (Holds t names) (let z = ltb-false 0 free g in let q : free ≡ 0 = omega arith in q) h) (is-name-decides name .yes e) (missing f)
+      go true false false e f g = no-slot (subst (Holds t names) (let z = ltb-false 0 free g in
+          let q : free ≡ 0 = omega arith in q) h) (is-name-decides name .yes e) (missing f)
 
 -- ---- the promise and its cases
 

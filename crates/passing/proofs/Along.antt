@@ -31,12 +31,14 @@ pub record Ruling (ws left₀ left way ks stack : List ℕ) (x p low depth top :
   pub whole : wants (at .row) ≡ 0
   pub fewer : tally (marked left) lastLink ≤ tally (marked left₀) lastLink
 
-pub rules-start : (ws left way ks stack : List ℕ) (x p low depth top : ℕ) → Sizes ws left way ks stack → AtHook ws left way ks stack x p low depth top → getD ks depth 0 % 65536 ≡ 0
+pub rules-start : (ws left way ks stack : List ℕ) (x p low depth top : ℕ) → Sizes ws left way ks stack → AtHook ws left way ks stack x p low depth top
+    → getD ks depth 0 % 65536 ≡ 0
     → Ruling ws left left way ks stack x p low depth top
 rules-start ws left way ks stack x p low depth top s a e = record {
   sizes = s;
   at = a;
-  whole = sym (ap (λ (z : ℕ). z % 65536) (ap (λ (j : ℕ). getD ks j 0) (sym (a .deep)) ∙ kept-counts (a .kept)) ∙ wanted-is (a .row) (let d = a .deep in let h = a .short in omega arith)) ∙ e;
+  whole = sym (ap (λ (z : ℕ). z % 65536) (ap (λ (j : ℕ). getD ks j 0) (sym (a .deep)) ∙ kept-counts (a .kept)) ∙ wanted-is (a .row) (let d = a .deep in
+      let h = a .short in omega arith)) ∙ e;
   fewer = omega arith;
 }
 
@@ -77,7 +79,8 @@ module _ (ws left₀ left way ks stack : List ℕ) (x p low depth top : ℕ) (i 
                   asks = record {
                     rule = omega arith;
                     most = let k = small n (q .0 .used) in omega arith;
-                    leaf = ap firstOf (sym is) ∙ ap (λ (k : ℕ). view ws .tree .first (suc k)) d ∙ nothing-below (x - firstRule) (ap (view ws .tree .used) (sym d) ∙ q .0 .used);
+                    leaf = ap firstOf (sym is) ∙ ap (λ (k : ℕ). view ws .tree .first (suc k)) d
+                        ∙ nothing-below (x - firstRule) (ap (view ws .tree .used) (sym d) ∙ q .0 .used);
                     under = ap parentOf (sym is) ∙ q .0 .under ∙ i .at .under;
                     above = subst (λ (z : ℕ). low ≤ cellOf z) is (subst (λ (z : ℕ). z ≤ view ws .tree .cell n) (i .at .above) (q .0 .above));
                     was = ap (marked left) (let b : x - 1 ≡ n = omega arith in b) ∙ q .1;
@@ -92,7 +95,8 @@ module _ (ws left₀ left way ks stack : List ℕ) (x p low depth top : ℕ) (i 
   no-rule left′ w r e q = refusal left′ (λ f. e .no q (comes f .asks))
 
   pub other-rule : (left′ : List ℕ) (r : Bool) → RuleDecided ws way (x - firstRule) depth r → r ≡ false → Ruled ws left₀ left′ way ks stack depth top false
-  other-rule left′ r d q = refusal left′ (λ f. d .no q (hangs-rule ws way ks (i .at .row) (x - firstRule) depth (i .at .kept) (i .at .cells) (i .at .deep) (i .at .short) (comes f .hangs)))
+  other-rule left′ r d q = refusal left′
+      (λ f. d .no q (hangs-rule ws way ks (i .at .row) (x - firstRule) depth (i .at .kept) (i .at .cells) (i .at .deep) (i .at .short) (comes f .hangs)))
 
   -- ---- one rule along
 
@@ -101,7 +105,9 @@ module _ (ws left₀ left way ks stack : List ℕ) (x p low depth top : ℕ) (i 
     rule-asked = e .yes t
 
     pub rule-word : (c : ℕ) → c ≡ cellOf w → c ≡ cellOf (getD ws (rulesAt + (x - firstRule)) 0)
-    rule-word c q = let l = rule-asked .rule in let d : linksAt + x ≡ rulesAt + (x - firstRule) = omega arith in q ∙ ap cellOf (e .word t) ∙ ap (λ (k : ℕ). cellOf (getD ws k 0)) d
+    rule-word c q =
+        let l = rule-asked .rule in
+        let d : linksAt + x ≡ rulesAt + (x - firstRule) = omega arith in q ∙ ap cellOf (e .word t) ∙ ap (λ (k : ℕ). cellOf (getD ws k 0)) d
 
     module _ (b : Bool) (d : RuleDecided ws way (x - firstRule) depth b) (tb : b ≡ true) where
       right : RuleAt ws way (x - firstRule) depth
@@ -126,13 +132,15 @@ module _ (ws left₀ left way ks stack : List ℕ) (x p low depth top : ℕ) (i 
       }
 
       standing : Standing (view ws .tree) Bare (Told (view ws)) (after (x - 1)) (i .at .row) (i .at .stops) (marked left′)
-      standing = go-along (view ws .tree) Bare (Told (view ws)) (marked left) (i .at .hook) (i .at .row) (i .at .stops) (i .at .standing) (x - 1) (i .at .leads ∙ sym up-one) (rule-asked .was)
+      standing = go-along (view ws .tree) Bare (Told (view ws)) (marked left) (i .at .hook) (i .at .row) (i .at .stops) (i .at .standing) (x - 1)
+          (i .at .leads ∙ sym up-one) (rule-asked .was)
           (ap parentOf is ∙ rule-asked .under ∙ sym (i .at .under))
           (subst (λ (z : ℕ). z ≤ view ws .tree .cell (x - 1)) (sym (i .at .above)) (subst (λ (z : ℕ). low ≤ cellOf z) (sym is) (rule-asked .above))) tell
           (marked left′) (e .gone t) (e .others t) (ap firstOf is ∙ rule-asked .leaf) (let l = rule-asked .rule in omega arith)
 
       pub one-less : tally (marked left) lastLink ≡ suc (tally (marked left′) lastLink)
-      one-less = tally-more (marked left′) (marked left) (x - 1) lastLink (let q = rule-asked .rule in let l = rule-asked .most in omega arith) (e .gone t) (rule-asked .was) (λ y k. sym (e .others t y k))
+      one-less = tally-more (marked left′) (marked left) (x - 1) lastLink (let q = rule-asked .rule in
+          let l = rule-asked .most in omega arith) (e .gone t) (rule-asked .was) (λ y k. sym (e .others t y k))
 
       pub rules-on : (x′ c : ℕ) → length left′ ≡ length left → c ≡ cellOf w → x′ ≡ nextOf w → ¬ (x′ ≡ 0) → Ruling ws left₀ left′ way ks stack x′ p (c + 1) depth top
       rules-on x′ c ll ec ex z = record {

@@ -72,13 +72,15 @@ module _ (ws left : List ℕ) (x p low depth : ℕ) where
     no = λ q. n;
   }
 
-  pub not-come : (left′ : List ℕ) (w n : ℕ) (r : Bool) → n ≡ x - 1 → w ≡ getD ws (linksAt + x) 0 → Come left left′ w n p low r → r ≡ false → ¬ (AskedNode left x p low depth (getD ws (linksAt + x) 0))
+  pub not-come : (left′ : List ℕ) (w n : ℕ) (r : Bool) → n ≡ x - 1 → w ≡ getD ws (linksAt + x) 0 → Come left left′ w n p low r → r ≡ false
+      → ¬ (AskedNode left x p low depth (getD ws (linksAt + x) 0))
   not-come left′ w n r en ew c f a = c .no f (ap parentOf ew ∙ a .under) (low-enough ew (a .above)) (ap (marked left) en ∙ a .was)
     where
       low-enough : {u v : ℕ} → u ≡ v → low ≤ cellOf v → low ≤ cellOf u
       low-enough e h = subst (λ (z : ℕ). low ≤ cellOf z) (sym e) h
 
-  pub enters : (left′ : List ℕ) (w n : ℕ) (r : Bool) → n ≡ x - 1 → w ≡ getD ws (linksAt + x) 0 → Come left left′ w n p low r → r ≡ true → ¬ (x ≡ 0) → x ≤ nodesLimit → depth < 32 → (c : ℕ) → c ≡ cellOf w → c ≤ 32768
+  pub enters : (left′ : List ℕ) (w n : ℕ) (r : Bool) → n ≡ x - 1 → w ≡ getD ws (linksAt + x) 0 → Come left left′ w n p low r → r ≡ true → ¬ (x ≡ 0)
+      → x ≤ nodesLimit → depth < 32 → (c : ℕ) → c ≡ cellOf w → c ≤ 32768
       → Entered ws left left′ x p low depth w true
   enters left′ w n r en ew c t a b d v ev h = record {
     yes = λ q. record {
@@ -108,10 +110,12 @@ module _ (ws left : List ℕ) (x p low : ℕ) where
     no = λ q. n;
   }
 
-  pub rule-not-come : (left′ : List ℕ) (w n : ℕ) (r : Bool) → n ≡ x - 1 → w ≡ getD ws (linksAt + x) 0 → Come left left′ w n p low r → r ≡ false → ¬ (AskedRule left x p low (getD ws (linksAt + x) 0))
+  pub rule-not-come : (left′ : List ℕ) (w n : ℕ) (r : Bool) → n ≡ x - 1 → w ≡ getD ws (linksAt + x) 0 → Come left left′ w n p low r → r ≡ false
+      → ¬ (AskedRule left x p low (getD ws (linksAt + x) 0))
   rule-not-come left′ w n r en ew c f a = c .no f (ap parentOf ew ∙ a .under) (subst (λ (z : ℕ). low ≤ cellOf z) (sym ew) (a .above)) (ap (marked left) en ∙ a .was)
 
-  pub rule-enters : (left′ : List ℕ) (w n : ℕ) (r : Bool) → n ≡ x - 1 → w ≡ getD ws (linksAt + x) 0 → Come left left′ w n p low r → r ≡ true → nodesLimit < x → x ≤ lastLink → (f : ℕ) → f ≡ firstOf w → f ≡ 0
+  pub rule-enters : (left′ : List ℕ) (w n : ℕ) (r : Bool) → n ≡ x - 1 → w ≡ getD ws (linksAt + x) 0 → Come left left′ w n p low r → r ≡ true
+      → nodesLimit < x → x ≤ lastLink → (f : ℕ) → f ≡ firstOf w → f ≡ 0
       → RuleEntered ws left left′ x p low w true
   rule-enters left′ w n r en ew c t a b f ef z = record {
     yes = λ q. record { rule = a; most = b; leaf = sym ef ∙ z; under = c .under t; above = c .above t; was = ap (marked left) (sym en) ∙ c .was t };

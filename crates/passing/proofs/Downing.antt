@@ -34,13 +34,16 @@ kept-counts (more a b h k) = b
 pub kept-set : {way ks r : List ℕ} (i a b : ℕ) → length r < i → Kept way ks r → Kept (set way i a) (set ks i b) r
 kept-set {way} {ks} i a b h (none x y) = none (getD-set-other way i 0 a 0 (λ e. omega arith) ∙ x) (getD-set-other ks i 0 b 0 (λ e. omega arith) ∙ y)
 kept-set {way} {ks} i a b h (more {r = r} x y z k) =
-    more (getD-set-other way i (suc (length r)) a 0 (λ e. omega arith) ∙ x) (getD-set-other ks i (suc (length r)) b 0 (λ e. omega arith) ∙ y) z (kept-set i a b (omega arith) k)
+    more (getD-set-other way i (suc (length r)) a 0 (λ e. omega arith) ∙ x) (getD-set-other ks i (suc (length r)) b 0 (λ e. omega arith) ∙ y) z
+    (kept-set i a b (omega arith) k)
 
-pub kept-more : {way ks r : List ℕ} (c d a b : ℕ) → length way ≡ 33 → length ks ≡ 33 → length r ≡ d → d < 32 → a ≡ wordOf (c ∷ r) → b ≡ counts (c ∷ r) → ¬ (wants r ≡ 0) → Kept way ks r
+pub kept-more : {way ks r : List ℕ} (c d a b : ℕ) → length way ≡ 33 → length ks ≡ 33 → length r ≡ d → d < 32 → a ≡ wordOf (c ∷ r) → b ≡ counts (c ∷ r)
+    → ¬ (wants r ≡ 0) → Kept way ks r
     → Kept (set way (d + 1) a) (set ks (d + 1) b) (c ∷ r)
 kept-more {way} {ks} {r} c d a b lw lk e h ea eb z k =
     let i : suc (length r) ≡ d + 1 = omega arith in
-    more (ap (λ (j : ℕ). getD (set way (d + 1) a) j 0) i ∙ getD-set-same way (d + 1) a 0 (omega arith) ∙ ea) (ap (λ (j : ℕ). getD (set ks (d + 1) b) j 0) i ∙ getD-set-same ks (d + 1) b 0 (omega arith) ∙ eb)
+    more (ap (λ (j : ℕ). getD (set way (d + 1) a) j 0) i ∙ getD-set-same way (d + 1) a 0 (omega arith) ∙ ea)
+    (ap (λ (j : ℕ). getD (set ks (d + 1) b) j 0) i ∙ getD-set-same ks (d + 1) b 0 (omega arith) ∙ eb)
     z (kept-set (d + 1) a b (omega arith) k)
 
 pub kept-back : {way ks r : List ℕ} (s : List ℕ) → Kept way ks (s ++ r) → Kept way ks r
@@ -93,7 +96,8 @@ module _ (ws left way ks stack : List ℕ) (x p low depth top : ℕ) (s : Sizes 
 
   -- where all is found, a node that the hook leads to is left and fits, and it has the row that the walk has
   module _ (f : AllFound ws) where
-    pub meets : (n : ℕ) → to (view ws .tree) (a .hook) ≡ suc n → Fits (view ws .tree) (a .hook) n × (marked left n ≡ true) × Told (view ws) n (view ws .tree .cell n ∷ a .row)
+    pub meets : (n : ℕ) → to (view ws .tree) (a .hook) ≡ suc n
+        → Fits (view ws .tree) (a .hook) n × (marked left n ≡ true) × Told (view ws) n (view ws .tree .cell n ∷ a .row)
     meets n e =
         let q = fresh (view ws .tree) Bare (Told (view ws)) (marked left) (a .hook) (map beside (a .stops)) (a .standing .walking) (f .tree) e in
         let t = f .told n (q .0 .used) in
@@ -154,11 +158,18 @@ module _ (ws left way ks stack : List ℕ) (x p low depth top : ℕ) (s : Sizes 
     is = node-word ws n (let l = n-low in omega arith) ∙ ap (λ (k : ℕ). getD ws (linksAt + k) 0) up-one ∙ sym (e .word t)
 
     pub one-less : tally (marked left) lastLink ≡ suc (tally (marked left′) lastLink)
-    one-less = tally-more (marked left′) (marked left) (x - 1) lastLink (let q = asked .some in let l = asked .node in omega arith) (e .gone t) (asked .was) (λ y d. sym (e .others t y d))
+    one-less = tally-more (marked left′) (marked left) (x - 1) lastLink (let q = asked .some in
+        let l = asked .node in omega arith) (e .gone t) (asked .was) (λ y d. sym (e .others t y d))
 
     inner-told : Told (view ws) n (view ws .tree .cell n ∷ a .row)
     inner-told = record {
-      node = λ l. record { low = subst (λ (z : ℕ). cellOf z ≤ 32768) (sym is) (asked .cell); short = let d = a .deep in let k = asked .short in omega arith; wanting = h };
+      node = λ l. record {
+        low = subst (λ (z : ℕ). cellOf z ≤ 32768) (sym is) (asked .cell);
+        short =
+            let d = a .deep in
+            let k = asked .short in omega arith;
+        wanting = h;
+      };
       rule = λ k q. absurd (let l = n-low in omega arith);
     }
 
@@ -171,14 +182,17 @@ module _ (ws left way ks stack : List ℕ) (x p low depth top : ℕ) (s : Sizes 
     fits-above : floor (view ws .tree) (a .hook) ≤ view ws .tree .cell n
     fits-above = subst (λ (z : ℕ). z ≤ view ws .tree .cell n) (sym (a .above)) (subst (λ (z : ℕ). low ≤ cellOf z) (sym is) (asked .above))
 
-    with-sibling : ¬ (nextOf w ≡ 0) → Standing (view ws .tree) Bare (Told (view ws)) (child (suc n)) (view ws .tree .cell n ∷ a .row) (stop n (length (a .row)) ∷ a .stops) (marked left′)
+    with-sibling : ¬ (nextOf w ≡ 0)
+        → Standing (view ws .tree) Bare (Told (view ws)) (child (suc n)) (view ws .tree .cell n ∷ a .row) (stop n (length (a .row)) ∷ a .stops) (marked left′)
     unfolding n
-    with-sibling z = go-down (view ws .tree) Bare (Told (view ws)) (marked left) (a .hook) (a .row) (a .stops) (a .standing) (x - 1) leads-to (asked .was) fits-under fits-above inner-told
+    with-sibling z = go-down (view ws .tree) Bare (Told (view ws)) (marked left) (a .hook) (a .row) (a .stops) (a .standing) (x - 1) leads-to
+        (asked .was) fits-under fits-above inner-told
         (marked left′) (e .gone t) (e .others t) (λ q. z (sym (ap nextOf is) ∙ q))
 
     with-none : nextOf w ≡ 0 → Standing (view ws .tree) Bare (Told (view ws)) (child (suc n)) (view ws .tree .cell n ∷ a .row) (a .stops) (marked left′)
     unfolding n
-    with-none z = go-last (view ws .tree) Bare (Told (view ws)) (marked left) (a .hook) (a .row) (a .stops) (a .standing) (x - 1) leads-to (asked .was) fits-under fits-above inner-told
+    with-none z = go-last (view ws .tree) Bare (Told (view ws)) (marked left) (a .hook) (a .row) (a .stops) (a .standing) (x - 1) leads-to
+        (asked .was) fits-under fits-above inner-told
         (marked left′) (e .gone t) (e .others t) (ap nextOf is ∙ z) tt
 
     pub top-low : top ≤ depth
@@ -220,7 +234,9 @@ module _ (ws left way ks stack : List ℕ) (x p low depth top : ℕ) (s : Sizes 
           let t : suc top ≡ top′ = omega (arith, d .more z) in
           subst (λ (k : ℕ). Stacked (view ws .tree) stack′ k (stop n (length (a .row)) ∷ a .stops)) t
           (subst (λ (l : List ℕ). Stacked (view ws .tree) l (suc top) (stop n (length (a .row)) ∷ a .stops)) (sym (d .stored))
-          (more (as-node (sym (getD-set-same stack top (d .word) 0 (let f = top-low in let g = asked .short in let j = s .stops in omega arith)))) (stacked-set top (d .word) (omega arith) (a .stacked))))
+          (more (as-node (sym (getD-set-same stack top (d .word) 0 (let f = top-low in
+          let g = asked .short in
+          let j = s .stops in omega arith)))) (stacked-set top (d .word) (omega arith) (a .stacked))))
         where
           as-node : {u : ℕ} → d .word ≡ u → Node u (view ws .tree .cell n) (view ws .tree .parent n) (length (a .row)) (view ws .tree .next n)
           as-node q = subst (λ (u : ℕ). Node u (view ws .tree .cell n) (view ws .tree .parent n) (length (a .row)) (view ws .tree .next n)) q (record {
@@ -282,7 +298,8 @@ module _ (ws left₀ left way ks stack : List ℕ) (x p low depth top k last : �
   wanted : k % 65536 ≡ wants (i .at .row)
   wanted = ap (λ (z : ℕ). z % 65536) (i .count) ∙ wanted-is (i .at .row) long
 
-  pub down-lost : (left′ way′ ks′ stack′ : List ℕ) (x′ p′ low′ depth′ top′ w : ℕ) (r r′ : Bool) → ¬ (k % 65536 ≡ 0) → Entered ws left left′ x p low depth w r → r ≡ false → r′ ≡ false
+  pub down-lost : (left′ way′ ks′ stack′ : List ℕ) (x′ p′ low′ depth′ top′ w : ℕ) (r r′ : Bool) → ¬ (k % 65536 ≡ 0)
+      → Entered ws left left′ x p low depth w r → r ≡ false → r′ ≡ false
       → Downed ws left₀ left′ way′ ks′ stack′ x′ p′ low′ depth′ top′ r′
   down-lost left′ way′ ks′ stack′ x′ p′ low′ depth′ top′ w r r′ h e f f′ = record {
     at = λ q. absurd (true≢false q f′);
@@ -306,8 +323,10 @@ module _ (ws left₀ left way ks stack : List ℕ) (x p low depth top k last : �
     wanting : ¬ (wants (i .at .row) ≡ 0)
     wanting z = h (wanted ∙ z)
 
-    pub down-on : (stack′ : List ℕ) (top′ c f nm : ℕ) → length left′ ≡ length left → length stack′ ≡ length stack → c ≡ cellOf w → Pushed stack stack′ top top′ w depth → nm ≡ numbered c (k / 65536) → f ≡ firstOf w
-        → Downing ws left₀ left′ (set way (depth + 1) (last % 281474976710656 * 65536 + nm)) (set ks (depth + 1) (k + c / 4096 % 8 + c / 32768 * 65536 - 1)) stack′ f x 0 (depth + 1) top′
+    pub down-on : (stack′ : List ℕ) (top′ c f nm : ℕ) → length left′ ≡ length left → length stack′ ≡ length stack → c ≡ cellOf w
+        → Pushed stack stack′ top top′ w depth → nm ≡ numbered c (k / 65536) → f ≡ firstOf w
+        → Downing ws left₀ left′ (set way (depth + 1) (last % 281474976710656 * 65536 + nm))
+        (set ks (depth + 1) (k + c / 4096 % 8 + c / 32768 * 65536 - 1)) stack′ f x 0 (depth + 1) top′
         (k + c / 4096 % 8 + c / 32768 * 65536 - 1) (last % 281474976710656 * 65536 + nm)
     down-on stack′ top′ c f nm ll ls ec d en ef = record {
       sizes = record {
@@ -331,20 +350,26 @@ module _ (ws left₀ left way ks stack : List ℕ) (x p low depth top k last : �
 
         wd : last % 281474976710656 * 65536 + nm ≡ wordOf (cellOf w ∷ i .at .row)
         wd = ap (λ (z : ℕ). z % 281474976710656 * 65536 + nm) (i .cells)
-            ∙ ap (λ (z : ℕ). wordOf (i .at .row) % 281474976710656 * 65536 + z) (en ∙ ap (numbered c) (ap (λ (z : ℕ). z / 65536) (i .count) ∙ known-is (i .at .row) long) ∙ ap (λ (z : ℕ). numbered z (blanks (i .at .row))) ec)
+            ∙ ap (λ (z : ℕ). wordOf (i .at .row) % 281474976710656 * 65536 + z)
+            (en ∙ ap (numbered c) (ap (λ (z : ℕ). z / 65536) (i .count) ∙ known-is (i .at .row) long) ∙ ap (λ (z : ℕ). numbered z (blanks (i .at .row))) ec)
 
         next : AtHook ws left′ (set way (depth + 1) (last % 281474976710656 * 65536 + nm)) (set ks (depth + 1) (k + c / 4096 % 8 + c / 32768 * 65536 - 1)) stack′ f x 0 (depth + 1) top′
-        next = subst (λ (z : ℕ). AtHook ws left′ (set way (depth + 1) (last % 281474976710656 * 65536 + nm)) (set ks (depth + 1) (k + c / 4096 % 8 + c / 32768 * 65536 - 1)) stack′ z x 0 (depth + 1) top′) (sym ef)
+        next = subst (λ (z : ℕ). AtHook ws left′ (set way (depth + 1) (last % 281474976710656 * 65536 + nm))
+            (set ks (depth + 1) (k + c / 4096 % 8 + c / 32768 * 65536 - 1)) stack′ z x 0 (depth + 1) top′) (sym ef)
             (downward ws left way ks stack x p low depth top (i .sizes) (i .at) left′ w r e t wanting stack′ top′ d _ _ wd kk)
 
         count′ : k + c / 4096 % 8 + c / 32768 * 65536 - 1 ≡ counts (next .row)
-        count′ = sym (ap (λ (j : ℕ). getD (set ks (depth + 1) (k + c / 4096 % 8 + c / 32768 * 65536 - 1)) j 0) (next .deep) ∙ at-new ks (depth + 1) _ (let q = i .sizes .counts in let z = next .short in omega arith)) ∙ kept-counts (next .kept)
+        count′ = sym (ap (λ (j : ℕ). getD (set ks (depth + 1) (k + c / 4096 % 8 + c / 32768 * 65536 - 1)) j 0) (next .deep)
+            ∙ at-new ks (depth + 1) _ (let q = i .sizes .counts in
+            let z = next .short in omega arith)) ∙ kept-counts (next .kept)
           where
             at-new : (l : List ℕ) (j y : ℕ) → j < length l → getD (set l j y) j 0 ≡ y
             at-new l j y q = getD-set-same l j y 0 q
 
         cells′ : last % 281474976710656 * 65536 + nm ≡ wordOf (next .row)
-        cells′ = sym (ap (λ (j : ℕ). getD (set way (depth + 1) (last % 281474976710656 * 65536 + nm)) j 0) (next .deep) ∙ at-new way (depth + 1) _ (let q = i .sizes .ways in let z = next .short in omega arith)) ∙ kept-word (next .kept)
+        cells′ = sym (ap (λ (j : ℕ). getD (set way (depth + 1) (last % 281474976710656 * 65536 + nm)) j 0) (next .deep)
+            ∙ at-new way (depth + 1) _ (let q = i .sizes .ways in
+            let z = next .short in omega arith)) ∙ kept-word (next .kept)
           where
             at-new : (l : List ℕ) (j y : ℕ) → j < length l → getD (set l j y) j 0 ≡ y
             at-new l j y q = getD-set-same l j y 0 q

@@ -36,7 +36,8 @@ copied-on ws left i l h c j k = go (ℕ-discrete j i)
     go (no q) = getD-set-other left i j (getD ws i 0) 0 q ∙ c j (omega arith)
 
 pub copied-all : (ws left : List ℕ) (i : ℕ) → length ws ≡ bookWords → length left ≡ mapWords → mapWords ≤ i → CopiedTo ws left i → left ≡ take mapWords ws
-copied-all ws left i size l h c = ext-getD 0 left (take mapWords ws) (omega (arith, length-take mapWords ws)) (λ j k. c j (omega arith) ∙ sym (getD-take mapWords ws j 0 (omega arith)))
+copied-all ws left i size l h c = ext-getD 0 left (take mapWords ws) (omega (arith, length-take mapWords ws))
+    (λ j k. c j (omega arith) ∙ sym (getD-take mapWords ws j 0 (omega arith)))
 
 -- ---- none is left
 
@@ -54,7 +55,8 @@ found-passes ws size f = record { size = size; right = ended-right (view ws) (no
 pub answers-no : (ws : List ℕ) → ¬ (AllFound ws) → Decides (Passing ws) false
 answers-no ws n = record { yes = λ q. absurd (true≢false q refl); no = λ q p. n (right-ended (view ws) (nodes-low ws (p .size)) (p .right)) }
 
-pub walked : (ws left : List ℕ) → length ws ≡ bookWords → Walking (view ws .tree) Bare (Told (view ws)) [] (marked left) → (r : Bool) → Decides (Clear left) r → Decides (Passing ws) r
+pub walked : (ws left : List ℕ) → length ws ≡ bookWords → Walking (view ws .tree) Bare (Told (view ws)) [] (marked left) → (r : Bool)
+    → Decides (Clear left) r → Decides (Passing ws) r
 walked ws left size w r d = record {
   yes = λ q. found-passes ws size (ended (view ws .tree) Bare (Told (view ws)) (marked left) w (d .yes q));
   no = λ q p. let f = right-ended (view ws) (nodes-low ws size) (p .right) in d .no q (λ n. gone f n (marked left n) refl);
@@ -100,7 +102,8 @@ module _ (ws left : List ℕ) (size : length ws ≡ bookWords) (el : left ≡ ta
 module _ (ws left way ks stack : List ℕ) (depth top : ℕ) (size : length ws ≡ bookWords) (o : Over ws left way ks stack depth top) where
   pub walk-over : top ≡ 0 → (r : Bool) → Decides (Clear left) r → Decides (Passing ws) r
   walk-over z r d = walked ws left size
-      (go-end (view ws .tree) Bare (Told (view ws)) (marked left) (o .hook) (o .row) (o .stops) (o .standing) (no-stops (subst (λ (k : ℕ). Stacked (view ws .tree) stack k (o .stops)) z (o .stacked))) (o .leads) (o .bare)) r d
+      (go-end (view ws .tree) Bare (Told (view ws)) (marked left) (o .hook) (o .row) (o .stops) (o .standing)
+      (no-stops (subst (λ (k : ℕ). Stacked (view ws .tree) stack k (o .stops)) z (o .stacked))) (o .leads) (o .bare)) r d
     where
       no-stops : {ks : List Stop} → Stacked (view ws .tree) stack 0 ks → ks ≡ []
       no-stops none = refl
@@ -156,7 +159,8 @@ sizes-first ws left size e = record {
   stops = length-replicate {A = ℕ} 33 0;
 }
 
-pub sizes-after : (ws left way ks stack left′ way′ ks′ stack′ : List ℕ) → Sizes ws left way ks stack → length left′ ≡ length left → length way′ ≡ length way → length ks′ ≡ length ks → length stack′ ≡ length stack
+pub sizes-after : (ws left way ks stack left′ way′ ks′ stack′ : List ℕ) → Sizes ws left way ks stack → length left′ ≡ length left
+    → length way′ ≡ length way → length ks′ ≡ length ks → length stack′ ≡ length stack
     → Sizes ws left′ way′ ks′ stack′
 sizes-after ws left way ks stack left′ way′ ks′ stack′ s a b c d =
     record { words = s .words; maps = a ∙ s .maps; ways = b ∙ s .ways; counts = c ∙ s .counts; stops = d ∙ s .stops }

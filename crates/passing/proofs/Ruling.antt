@@ -22,7 +22,8 @@ module _ (ws way ks row : List ℕ) (k depth : ℕ) (kept : Kept way ks row) (lo
   row-cell j h = kept-cell kept low (omega arith) j (omega arith)
 
   form-cell : (j : ℕ) → j < view ws .size k → view ws .size k ≤ length (view ws .cells k) → getD (form (view ws) k) j 0 ≡ blankNumber (getD (view ws .cells k) j 0)
-  form-cell j h l = getD-map blankNumber (term (view ws) k) j (omega (arith, length-take (view ws .size k) (view ws .cells k))) ∙ ap blankNumber (getD-take (view ws .size k) (view ws .cells k) j 0 h)
+  form-cell j h l = getD-map blankNumber (term (view ws) k) j (omega (arith, length-take (view ws .size k) (view ws .cells k)))
+      ∙ ap blankNumber (getD-take (view ws .size k) (view ws .cells k) j 0 h)
     where
       getD-map : (f : ℕ → ℕ) (l : List ℕ) (j : ℕ) → j < length l → getD (map f l) j 0 ≡ f (getD l j 0)
       getD-map f [] j h = absurd (omega arith)
@@ -33,7 +34,11 @@ module _ (ws way ks row : List ℕ) (k depth : ℕ) (kept : Kept way ks row) (lo
   form-length l = omega (arith, length-map (term (view ws) k) blankNumber, length-take (view ws .size k) (view ws .cells k))
 
   pub rule-hangs : RuleAt ws way k depth → Hangs (view ws) k row
-  rule-hangs r = record { right = record { low = r .low; found = r .found; whole = whole; clean = λ i h. r .term .clean i (subst (λ (z : ℕ). z ≤ i) (r .size) h) }; is = is }
+  rule-hangs r = record {
+    right = record
+        { low = r .low; found = r .found; whole = whole; clean = λ i h. r .term .clean i (subst (λ (z : ℕ). z ≤ i) (r .size) h) };
+    is = is;
+  }
     where
       whole : readTerm (view ws .cells k) ≡ Whole (view ws .size k)
       whole = r .term .whole ∙ ap Whole (sym (r .size))

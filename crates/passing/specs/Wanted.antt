@@ -67,7 +67,8 @@ row-long (c ∷ p) = omega arith
 wants-rest : (p u : List ℕ) → ((c : ℕ) → List·Memᴰ c p → c ≤ 32768) → Terms 1 (map blankOf (reverse p ++ u)) → Terms (wants p) (map blankOf u)
 wants-rest [] u h t = t
 wants-rest (c ∷ p) u h t =
-    let o = open-row (wants-rest p (c ∷ u) (λ d i. h d (List·Memᴰ·tail i)) (subst (λ (z : List ℕ). Terms 1 (map blankOf z)) (ap (λ (z : List ℕ). z ++ u) (reverse-cons c p) ∙ append-assoc (reverse p) (c ∷ []) u) t)) in
+    let o = open-row (wants-rest p (c ∷ u) (λ d i. h d (List·Memᴰ·tail i))
+    (subst (λ (z : List ℕ). Terms 1 (map blankOf z)) (ap (λ (z : List ℕ). z ++ u) (reverse-cons c p) ∙ append-assoc (reverse p) (c ∷ []) u) t)) in
     recount (let a = arity-is c (h c (List·Memᴰ·head refl)) in let i = o .is in count (o .count) a i) (o .forms)
   where
     arity-is : (c : ℕ) → c ≤ 32768 → arity (blankOf c) ≡ c / 4096 % 8
@@ -123,7 +124,8 @@ module _ (v : View) (small : (n : ℕ) → Used (v .tree) n → n < lastLink) wh
       where
         go : (r : List ℕ) → Told v n r → Dec (n < nodesLimit) → length (behind r) ≤ 32
         go r t (yes l) = let s = t .node l .short in omega arith
-        go r t (no l) = let h = t .rule (n - nodesLimit) (omega arith) in omega (arith, form-long v (n - nodesLimit) (h .right), ap length (h .is), length-reverse (behind r))
+        go r t (no l) = let h = t .rule (n - nodesLimit) (omega arith) in omega
+            (arith, form-long v (n - nodesLimit) (h .right), ap length (h .is), length-reverse (behind r))
 
     ways : (x : End) → List·Memᴰ x (ends (leaves v)) → Up (v .tree) (suc (x .last)) (reverse (x .form))
     ways x i = let q = of-ends v (taken v) i in subst (λ (y : End). Up (v .tree) (suc (y .last)) (reverse (y .form))) (q .3) (at (q .0) (q .1))
@@ -133,7 +135,8 @@ module _ (v : View) (small : (n : ℕ) → Used (v .tree) n → n < lastLink) wh
             ap (λ (z : List ℕ). c ∷ z) (sym (reverse-reverse p) ∙ ap reverse (sym b)) ∙ ap (λ (z : ℕ). z ∷ reverse (form v k)) (sym a)
             ∙ sym (reverse-append (form v k) (number v k ∷ []))
 
-        by : (k : ℕ) {r : List ℕ} → Up (v .tree) (suc (nodesLimit + k)) r → Told v (nodesLimit + k) r → Up (v .tree) (suc (nodesLimit + k)) (reverse (form v k ++ (number v k ∷ [])))
+        by : (k : ℕ) {r : List ℕ} → Up (v .tree) (suc (nodesLimit + k)) r → Told v (nodesLimit + k) r
+            → Up (v .tree) (suc (nodesLimit + k)) (reverse (form v k ++ (number v k ∷ [])))
         by k (down {c = c} {r = p} u d y) t = subst (λ (z : List ℕ). Up (v .tree) (suc (nodesLimit + k)) z) (same k d (t .rule k refl .is)) (down u d y)
 
         at : (k : ℕ) → taken v k ≡ true → Up (v .tree) (suc (nodesLimit + k)) (reverse (form v k ++ (number v k ∷ [])))
@@ -209,7 +212,8 @@ module _ (v : View) (small : (n : ℕ) → Used (v .tree) n → n < lastLink) wh
             let y = Memᴰ·of-map (leaf v) (listed (taken v) rulesLimit) (x .1) in
             let u = of-listed (taken v) rulesLimit (y .1) .0 in
             let t = term-at v small right (y .0) u in
-            by (term v (y .0)) (t .form) (omega (arith, term-size v small right (y .0) u, t .short)) (b .rest) (b .is ∙ sym (x .2) ∙ ap (λ (z : Leaf). z .form) (sym (y .2)))
+            by (term v (y .0)) (t .form) (omega (arith, term-size v small right (y .0) u, t .short)) (b .rest)
+            (b .is ∙ sym (x .2) ∙ ap (λ (z : Leaf). z .form) (sym (y .2)))
 
     told : (n : ℕ) → Used (v .tree) n → (r : List ℕ) × Up (v .tree) (suc n) r × Told v n r
     told n u = go (decLt n nodesLimit)
@@ -226,7 +230,8 @@ module _ (v : View) (small : (n : ℕ) → Used (v .tree) n → n < lastLink) wh
                   (subst (λ (z : List ℕ). Up (v .tree) (suc (nodesLimit + k)) z) (reverse-append (form v k) (number v k ∷ [])) x),
               record {
                 node = λ l. absurd (omega arith);
-                rule = λ j d. let s : k ≡ j = omega arith in subst (λ (z : ℕ). Hangs v z (reverse (form v k))) s (record { right = right .records k w; is = sym (reverse-reverse (form v k)) });
+                rule = λ j d. let s : k ≡ j = omega arith in subst (λ (z : ℕ). Hangs v z (reverse (form v k))) s
+                    (record { right = right .records k w; is = sym (reverse-reverse (form v k)) });
               },
             )
 

@@ -30,7 +30,8 @@ module _ (ws : List ℕ) (p : Passing ws) (all : (i : ℕ) → getD ws i 0 < 2 ^
   next-is k u = ap nextOf (word-of ws p k u)
 
   -- from k, which has the parent of b and a cell below its
-  along : (n k : ℕ) → Used (view ws .tree) k → view ws .tree .parent b ≡ view ws .tree .parent k → low ≤ view ws .tree .cell k → view ws .tree .cell k < view ws .tree .cell b → view ws .tree .cell b ≤ view ws .tree .cell k + n
+  along : (n k : ℕ) → Used (view ws .tree) k → view ws .tree .parent b ≡ view ws .tree .parent k → low ≤ view ws .tree .cell k
+      → view ws .tree .cell k < view ws .tree .cell b → view ws .tree .cell b ≤ view ws .tree .cell k + n
       → PassesBy ws cell link (suc k) → PassesBy ws cell link (suc b) × (size (trie (view ws .tree) (suc b)) < size (trie (view ws .tree) (suc k)))
   along zero k u e l h f by = absurd (omega arith)
   along (suc n) k u e l h f by = go (λ j uj ej lj hj fj bj. along n j uj ej lj hj fj bj) (q .2)
@@ -49,8 +50,13 @@ module _ (ws : List ℕ) (p : Passing ws) (all : (i : ℕ) → getD ws i 0 < 2 ^
 
       go : ((j : ℕ) → Used (view ws .tree) j → view ws .tree .parent b ≡ view ws .tree .parent j → low ≤ view ws .tree .cell j → view ws .tree .cell j < view ws .tree .cell b → view ws .tree .cell b ≤ view ws .tree .cell j + n
           → PassesBy ws cell link (suc j) → PassesBy ws cell link (suc b) × (size (trie (view ws .tree) (suc b)) < size (trie (view ws .tree) (suc j))))
-          → (q .0 ≡ b) ⊎ (view ws .tree .cell (q .0) < view ws .tree .cell b) → PassesBy ws cell link (suc b) × (size (trie (view ws .tree) (suc b)) < size (trie (view ws .tree) (suc k)))
-      go ih (inl z) = (subst (λ (j : ℕ). PassesBy ws cell link (suc j)) z passed, subst (λ (j : ℕ). size (trie (view ws .tree) (suc j)) < size (trie (view ws .tree) (suc k))) z less)
+          → (q .0 ≡ b) ⊎ (view ws .tree .cell (q .0) < view ws .tree .cell b) → PassesBy ws cell link (suc b)
+          × (size (trie (view ws .tree) (suc b)) < size (trie (view ws .tree) (suc k)))
+      go ih (inl z) = (
+        subst (λ (j : ℕ). PassesBy ws cell link (suc j)) z passed,
+        subst
+            (λ (j : ℕ). size (trie (view ws .tree) (suc j)) < size (trie (view ws .tree) (suc k))) z less,
+      )
       go ih (inr z) =
           let g = tree ws p .goes (after k) u (q .1) in
           let r = ih (q .0) (g .used) (e ∙ sym (g .under)) (let a = g .above in omega arith) z (let a = g .above in omega arith) passed in
@@ -61,11 +67,21 @@ pub up-to-it : (cell c : ℕ) → cell < 32768 → Reach cell c cell
 up-to-it cell c low = record { low = omega arith; between = λ k l h e. omega arith }
 
 -- a sign that leads further on
-pub leaps : (ws : List ℕ) (cell link x most r : ℕ) → Threaded ws x → ¬ (x ≡ 0) → ((i : ℕ) → getD ws i 0 < 2 ^ 64) → (c : ℕ) → c ≡ cellOf (getD ws (linksAt + x) 0) → Reach cell c most → Further (view ws .tree) (getD ws (linksAt + x) 0) most r
+pub leaps : (ws : List ℕ) (cell link x most r : ℕ) → Threaded ws x → ¬ (x ≡ 0) → ((i : ℕ) → getD ws i 0 < 2 ^ 64) → (c : ℕ)
+    → c ≡ cellOf (getD ws (linksAt + x) 0) → Reach cell c most → Further (view ws .tree) (getD ws (linksAt + x) 0) most r
     → PassesBy ws cell link x → Leapt ws cell link x r
 leaps ws cell link zero most r t n all c ec reach f by = absurd (n refl)
 leaps ws cell link (suc k) most r t n all c ec reach f by =
-    subst (Leapt ws cell link (suc k)) (sym (f .leads)) (record { threaded = record { passing = t .passing; used = λ y e. subst (Used (view ws .tree)) (let z : f .node ≡ y = omega arith in z) (f .used) }; by = w .0; less = w .1 })
+    subst (Leapt ws cell link (suc k)) (sym (f .leads))
+    (record {
+      threaded = record {
+        passing = t .passing;
+        used = λ y e. subst (Used (view ws .tree)) (let z : f .node ≡ y = omega arith in z)
+            (f .used);
+      };
+      by = w .0;
+      less = w .1;
+    })
   where
     u : Used (view ws .tree) k
     u = t .used k refl
@@ -75,10 +91,12 @@ leaps ws cell link (suc k) most r t n all c ec reach f by =
 
     w : PassesBy ws cell link (suc (f .node)) × (size (trie (view ws .tree) (suc (f .node))) < size (trie (view ws .tree) (suc k)))
     w = along ws (t .passing) all cell link c (f .node) (f .used) (λ d l h. let m = f .near in let z = reach .low in (omega arith, reach .between d l (omega arith)))
-        (view ws .tree .cell (f .node)) k u (f .beside ∙ sym (ap parentOf (word-of ws (t .passing) k u))) (omega (arith, same)) (let h = f .further in omega (arith, same, ec)) (omega arith) by
+        (view ws .tree .cell (f .node)) k u (f .beside ∙ sym (ap parentOf (word-of ws (t .passing) k u))) (omega (arith, same))
+        (let h = f .further in omega (arith, same, ec)) (omega arith) by
 
 -- the next sibling, where it is passed by
-pub steps : (ws : List ℕ) (cell link x r : ℕ) → Threaded ws x → ¬ (x ≡ 0) → ((i : ℕ) → getD ws i 0 < 2 ^ 64) → (c : ℕ) → c ≡ cellOf (getD ws (linksAt + x) 0) → c < 32768 → ¬ (c ≡ cell) → r ≡ nextOf (getD ws (linksAt + x) 0) → PassesBy ws cell link x → Leapt ws cell link x r
+pub steps : (ws : List ℕ) (cell link x r : ℕ) → Threaded ws x → ¬ (x ≡ 0) → ((i : ℕ) → getD ws i 0 < 2 ^ 64) → (c : ℕ)
+    → c ≡ cellOf (getD ws (linksAt + x) 0) → c < 32768 → ¬ (c ≡ cell) → r ≡ nextOf (getD ws (linksAt + x) 0) → PassesBy ws cell link x → Leapt ws cell link x r
 steps ws cell link zero r t n all c ec l d e by = absurd (n refl)
 steps ws cell link (suc k) r t n all c ec l d e by = subst (Leapt ws cell link (suc k)) (sym e) (record {
   threaded = record { passing = t .passing; used = λ y q. next-used ws (t .passing) k (t .used k refl) y q };

@@ -36,7 +36,8 @@ tip-at ws = no-trie (view ws .tree) FUEL
 
 pub nothing-at : (fq fr : Bool) (ws q : List ℕ) (p : Point) → p .link ≡ 0 → hitsAt fq fr ws q p ≡ []
 unfolding hitsAt
-nothing-at fq fr ws q p z = ap (λ (t : Trie). hits (next fq fr) (good fq fr) (view ws .tree) (walkBefore q (p .skip) (p .place)) t) (ap (trie (view ws .tree)) z ∙ tip-at ws)
+nothing-at fq fr ws q p z = ap (λ (t : Trie). hits (next fq fr) (good fq fr) (view ws .tree) (walkBefore q (p .skip) (p .place)) t)
+    (ap (trie (view ws .tree)) z ∙ tip-at ws)
 
 -- a node in use: x is its link, w its word
 module _ (ws : List ℕ) (words : (i : ℕ) → getD ws i 0 < 2 ^ 64) (x : ℕ) (t : Threaded ws x) (some : ¬ (x ≡ 0)) where
@@ -81,25 +82,37 @@ module _ (ws : List ℕ) (words : (i : ℕ) → getD ws i 0 < 2 ^ 64) (x : ℕ) 
 
   module _ (fq fr : Bool) (q : List ℕ) (skip place : ℕ) where
     here : hits (next fq fr) (good fq fr) (view ws .tree) (walkBefore q skip place) (trie (view ws .tree) x)
-        ≡ keep (good fq fr (walkAfter fq fr q w skip place)) n ++ (hits (next fq fr) (good fq fr) (view ws .tree) (walkAfter fq fr q w skip place) (trie (view ws .tree) (firstOf w)) ++ hits (next fq fr) (good fq fr) (view ws .tree) (walkBefore q skip place) (trie (view ws .tree) (nextOf w)))
+        ≡ keep (good fq fr (walkAfter fq fr q w skip place)) n
+        ++ (hits (next fq fr) (good fq fr) (view ws .tree) (walkAfter fq fr q w skip place) (trie (view ws .tree) (firstOf w))
+        ++ hits (next fq fr) (good fq fr) (view ws .tree) (walkBefore q skip place) (trie (view ws .tree) (nextOf w)))
     here =
         ap (hits (next fq fr) (good fq fr) (view ws .tree) (walkBefore q skip place)) opened
-        ∙ ap (λ (c : ℕ). keep (good fq fr (next fq fr c (walkBefore q skip place))) n ++ (hits (next fq fr) (good fq fr) (view ws .tree) (next fq fr c (walkBefore q skip place)) (trie (view ws .tree) (firstOf w)) ++ hits (next fq fr) (good fq fr) (view ws .tree) (walkBefore q skip place) (trie (view ws .tree) (nextOf w)))) cell-is
+        ∙ ap (λ (c : ℕ). keep (good fq fr (next fq fr c (walkBefore q skip place))) n
+        ++ (hits (next fq fr) (good fq fr) (view ws .tree) (next fq fr c (walkBefore q skip place)) (trie (view ws .tree) (firstOf w))
+        ++ hits (next fq fr) (good fq fr) (view ws .tree) (walkBefore q skip place) (trie (view ws .tree) (nextOf w)))) cell-is
 
     -- the machine goes on
     pub on-gives : (skip′ place′ : ℕ) → walkAfter fq fr q (getD ws (linksAt + x) 0) skip place ≡ walkBefore q skip′ place′
-        → hitsAt fq fr ws q (record { link = x; skip = skip; place = place }) ≡ hitsAt fq fr ws q (record { link = firstOf (getD ws (linksAt + x) 0); skip = skip′; place = place′ }) ++ hitsAt fq fr ws q (record { link = nextOf (getD ws (linksAt + x) 0); skip = skip; place = place })
+        → hitsAt fq fr ws q (record { link = x; skip = skip; place = place })
+        ≡ hitsAt fq fr ws q (record { link = firstOf (getD ws (linksAt + x) 0); skip = skip′; place = place′ })
+        ++ hitsAt fq fr ws q (record { link = nextOf (getD ws (linksAt + x) 0); skip = skip; place = place })
     unfolding hitsAt
     on-gives skip′ place′ e =
-        here ∙ ap (λ (s : Walk). keep (good fq fr s) n ++ (hits (next fq fr) (good fq fr) (view ws .tree) s (trie (view ws .tree) (firstOf w)) ++ hits (next fq fr) (good fq fr) (view ws .tree) (walkBefore q skip place) (trie (view ws .tree) (nextOf w)))) e
+        here ∙ ap (λ (s : Walk). keep (good fq fr s) n
+        ++ (hits (next fq fr) (good fq fr) (view ws .tree) s (trie (view ws .tree) (firstOf w))
+        ++ hits (next fq fr) (good fq fr) (view ws .tree) (walkBefore q skip place) (trie (view ws .tree) (nextOf w)))) e
 
     -- it fails
     pub fail-gives : walkAfter fq fr q (getD ws (linksAt + x) 0) skip place ≡ reading failed
-        → hitsAt fq fr ws q (record { link = x; skip = skip; place = place }) ≡ hitsAt fq fr ws q (record { link = nextOf (getD ws (linksAt + x) 0); skip = skip; place = place })
+        → hitsAt fq fr ws q (record { link = x; skip = skip; place = place })
+        ≡ hitsAt fq fr ws q (record { link = nextOf (getD ws (linksAt + x) 0); skip = skip; place = place })
     unfolding hitsAt
     fail-gives e =
-        here ∙ ap (λ (s : Walk). keep (good fq fr s) n ++ (hits (next fq fr) (good fq fr) (view ws .tree) s (trie (view ws .tree) (firstOf w)) ++ hits (next fq fr) (good fq fr) (view ws .tree) (walkBefore q skip place) (trie (view ws .tree) (nextOf w)))) e
-        ∙ ap (λ (l : List ℕ). l ++ hits (next fq fr) (good fq fr) (view ws .tree) (walkBefore q skip place) (trie (view ws .tree) (nextOf w))) (failed-none fq fr (view ws .tree) (trie (view ws .tree) (firstOf w)))
+        here ∙ ap (λ (s : Walk). keep (good fq fr s) n
+        ++ (hits (next fq fr) (good fq fr) (view ws .tree) s (trie (view ws .tree) (firstOf w))
+        ++ hits (next fq fr) (good fq fr) (view ws .tree) (walkBefore q skip place) (trie (view ws .tree) (nextOf w)))) e
+        ∙ ap (λ (l : List ℕ). l ++ hits (next fq fr) (good fq fr) (view ws .tree) (walkBefore q skip place) (trie (view ws .tree) (nextOf w)))
+        (failed-none fq fr (view ws .tree) (trie (view ws .tree) (firstOf w)))
 
 -- ---- the points that are left
 
@@ -121,15 +134,27 @@ module _ (fq fr : Bool) (ws q : List ℕ) (words : (i : ℕ) → getD ws i 0 < 2
     -- nothing is left but the nodes
     pub all-gone : (nodes : List ℕ) → hitsAt fq fr ws q p ≡ nodes → Left fq fr ws q p nodes (record { beside = 0; down = 0; skip = 0; place = 0 })
     all-gone nodes e = record {
-      gives = e ∙ sym (append-nil nodes) ∙ ap (λ (l : List ℕ). nodes ++ l) (sym (ap₂ _++_ (nothing-at fq fr ws q _ refl) (nothing-at fq fr ws q (record { link = 0; skip = p .skip; place = p .place }) refl)));
-      fewer = (let s = sizes ws words (p .link) (r .threaded) some in let a = positive (trie (view ws .tree) (firstOf (getD ws (linksAt + p .link) 0))) in let b = positive (trie (view ws .tree) (nextOf (getD ws (linksAt + p .link) 0))) in let z = ap size (tip-at ws) in omega arith);
+      gives = e ∙ sym (append-nil nodes)
+          ∙ ap (λ (l : List ℕ). nodes ++ l)
+          (sym (ap₂ _++_ (nothing-at fq fr ws q _ refl) (nothing-at fq fr ws q (record { link = 0; skip = p .skip; place = p .place }) refl)));
+      fewer = (let s = sizes ws words (p .link) (r .threaded) some in
+          let a = positive (trie (view ws .tree) (firstOf (getD ws (linksAt + p .link) 0))) in
+          let b = positive (trie (view ws .tree) (nextOf (getD ws (linksAt + p .link) 0))) in
+          let z = ap size (tip-at ws) in omega arith);
       deeper = (let h = below-height ws words (p .link) (r .threaded) some in let z = ap height (tip-at ws) in omega arith);
       level = (let z = ap height (tip-at ws) in omega arith);
       below-ready = empty 0 0 (omega arith) (omega arith);
       beside-ready = empty (p .skip) (p .place) few-here (r .inside);
     }
 
-    beside-readies : ((n : ℕ) → List·Memᴰ n (hitsAt fq fr ws q (record { link = nextOf (getD ws (linksAt + p .link) 0); skip = p .skip; place = p .place })) → List·Memᴰ n (hitsAt fq fr ws q p)) → Ready fq fr ws q (record { link = nextOf (getD ws (linksAt + p .link) 0); skip = p .skip; place = p .place })
+    -- the points that it leaves: beside, and below where the machine goes on to v
+    abbrev nextPoint : Point
+    nextPoint = record { link = nextOf (getD ws (linksAt + p .link) 0); skip = p .skip; place = p .place }
+
+    abbrev firstPoint : Ways → Point
+    firstPoint v = record { link = firstOf (getD ws (linksAt + p .link) 0); skip = v .skip; place = v .place }
+
+    beside-readies : ((n : ℕ) → List·Memᴰ n (hitsAt fq fr ws q nextPoint) → List·Memᴰ n (hitsAt fq fr ws q p)) → Ready fq fr ws q nextPoint
     beside-readies among = record {
       threaded = beside-threaded ws (p .link) (r .threaded) some;
       short = r .short;
@@ -139,41 +164,54 @@ module _ (fq fr : Bool) (ws q : List ℕ) (words : (i : ℕ) → getD ws i 0 < 2
     }
 
     -- the machine goes on to the first child
-    pub goes-on : (v : Ways) → v .beside ≡ nextOf (getD ws (linksAt + p .link) 0) → v .down ≡ firstOf (getD ws (linksAt + p .link) 0) → walkAfter fq fr q (getD ws (linksAt + p .link) 0) (p .skip) (p .place) ≡ walkBefore q (v .skip) (v .place) → v .place ≤ length q → v .skip ≤ p .skip + 7 → Left fq fr ws q p [] v
-    goes-on v eb ed walk inside few = subst (λ (b : ℕ). Left fq fr ws q p [] (record { beside = b; down = v .down; skip = v .skip; place = v .place })) (sym eb) (subst (λ (d : ℕ). Left fq fr ws q p [] (record { beside = nextOf (getD ws (linksAt + p .link) 0); down = d; skip = v .skip; place = v .place })) (sym ed) (record {
-      gives = both;
-      fewer = (let s = sizes ws words (p .link) (r .threaded) some in omega arith);
-      deeper = below-height ws words (p .link) (r .threaded) some;
-      level = beside-height ws words (p .link) (r .threaded) some;
-      below-ready = record {
-        threaded = child-threaded ws words (p .link) (r .threaded) some;
-        short = r .short;
-        inside = inside;
-        few = (let h = below-height ws words (p .link) (r .threaded) some in let f = r .few in omega arith);
-        low = λ n i. r .low n (subst (List·Memᴰ n) (sym both) (Memᴰ·append-left _ i));
-      };
-      beside-ready = beside-readies (λ n i. subst (List·Memᴰ n) (sym both) (Memᴰ·append-right (hitsAt fq fr ws q (record { link = firstOf (getD ws (linksAt + p .link) 0); skip = v .skip; place = v .place })) i));
-    }))
+    pub goes-on : (v : Ways) → v .beside ≡ nextOf (getD ws (linksAt + p .link) 0) → v .down ≡ firstOf (getD ws (linksAt + p .link) 0)
+        → walkAfter fq fr q (getD ws (linksAt + p .link) 0) (p .skip) (p .place) ≡ walkBefore q (v .skip) (v .place) → v .place ≤ length q
+        → v .skip ≤ p .skip + 7 → Left fq fr ws q p [] v
+    goes-on v eb ed walk inside few = subst
+        (λ (b : ℕ). Left fq fr ws q p [] (record { beside = b; down = v .down; skip = v .skip; place = v .place })) (sym eb)
+        (subst (λ (d : ℕ). Left fq fr ws q p []
+        (record { beside = nextOf (getD ws (linksAt + p .link) 0); down = d; skip = v .skip; place = v .place })) (sym ed) (record {
+          gives = both;
+          fewer = (let s = sizes ws words (p .link) (r .threaded) some in omega arith);
+          deeper = below-height ws words (p .link) (r .threaded) some;
+          level = beside-height ws words (p .link) (r .threaded) some;
+          below-ready = record {
+            threaded = child-threaded ws words (p .link) (r .threaded) some;
+            short = r .short;
+            inside = inside;
+            few = (let h = below-height ws words (p .link) (r .threaded) some in let f = r .few in omega arith);
+            low = λ n i. r .low n (subst (List·Memᴰ n) (sym both) (Memᴰ·append-left _ i));
+          };
+          beside-ready = beside-readies (λ n i. subst (List·Memᴰ n) (sym both)
+              (Memᴰ·append-right (hitsAt fq fr ws q (firstPoint v)) i));
+        }))
       where
-        both : hitsAt fq fr ws q p ≡ hitsAt fq fr ws q (record { link = firstOf (getD ws (linksAt + p .link) 0); skip = v .skip; place = v .place }) ++ hitsAt fq fr ws q (record { link = nextOf (getD ws (linksAt + p .link) 0); skip = p .skip; place = p .place })
+        both : hitsAt fq fr ws q p ≡ hitsAt fq fr ws q (firstPoint v) ++ hitsAt fq fr ws q nextPoint
         both = on-gives ws words (p .link) (r .threaded) some fq fr q (p .skip) (p .place) (v .skip) (v .place) walk
 
     -- it fails
-    pub stops : (b : ℕ) → b ≡ nextOf (getD ws (linksAt + p .link) 0) → walkAfter fq fr q (getD ws (linksAt + p .link) 0) (p .skip) (p .place) ≡ reading failed → Left fq fr ws q p [] (record { beside = b; down = 0; skip = 0; place = 0 })
+    pub stops : (b : ℕ) → b ≡ nextOf (getD ws (linksAt + p .link) 0)
+        → walkAfter fq fr q (getD ws (linksAt + p .link) 0) (p .skip) (p .place) ≡ reading failed
+        → Left fq fr ws q p [] (record { beside = b; down = 0; skip = 0; place = 0 })
     stops b eb walk = subst (λ (x : ℕ). Left fq fr ws q p [] (record { beside = x; down = 0; skip = 0; place = 0 })) (sym eb) (record {
-      gives = same ∙ sym (ap (λ (l : List ℕ). l ++ hitsAt fq fr ws q (record { link = nextOf (getD ws (linksAt + p .link) 0); skip = p .skip; place = p .place })) (nothing-at fq fr ws q (record { link = 0; skip = 0; place = 0 }) refl));
-      fewer = (let s = sizes ws words (p .link) (r .threaded) some in let a = positive (trie (view ws .tree) (firstOf (getD ws (linksAt + p .link) 0))) in let z = ap size (tip-at ws) in omega arith);
+      gives = same ∙ sym (ap (λ (l : List ℕ). l
+          ++ hitsAt fq fr ws q nextPoint)
+          (nothing-at fq fr ws q (record { link = 0; skip = 0; place = 0 }) refl));
+      fewer = (let s = sizes ws words (p .link) (r .threaded) some in
+          let a = positive (trie (view ws .tree) (firstOf (getD ws (linksAt + p .link) 0))) in
+          let z = ap size (tip-at ws) in omega arith);
       deeper = (let h = below-height ws words (p .link) (r .threaded) some in let z = ap height (tip-at ws) in omega arith);
       level = beside-height ws words (p .link) (r .threaded) some;
       below-ready = empty 0 0 (omega arith) (omega arith);
       beside-ready = beside-readies (λ n i. subst (List·Memᴰ n) (sym same) i);
     })
       where
-        same : hitsAt fq fr ws q p ≡ hitsAt fq fr ws q (record { link = nextOf (getD ws (linksAt + p .link) 0); skip = p .skip; place = p .place })
+        same : hitsAt fq fr ws q p ≡ hitsAt fq fr ws q nextPoint
         same = fail-gives ws words (p .link) (r .threaded) some fq fr q (p .skip) (p .place) walk
 
 -- a node is passed
-passed-walk : (fq fr : Bool) (q : List ℕ) (c skip place s : ℕ) → 0 < skip → s ≡ skip - 1 + arity (blankOf c) → next fq fr c (walkBefore q skip place) ≡ walkBefore q s place
+passed-walk : (fq fr : Bool) (q : List ℕ) (c skip place s : ℕ) → 0 < skip → s ≡ skip - 1 + arity (blankOf c)
+    → next fq fr c (walkBefore q skip place) ≡ walkBefore q s place
 passed-walk fq fr q c zero place s h e = absurd (omega arith)
 passed-walk fq fr q c (suc k) place s h e = ap (λ (y : ℕ). reading (at y (drop place (blankForm q)))) (omega (arith, e))
 
@@ -191,7 +229,8 @@ module _ (fq fr : Bool) (ws q : List ℕ) (words : (i : ℕ) → getD ws i 0 < 2
       let one : suc (p .place) ≡ v .place = omega (arith, a .place-is) in
       let all : arity (blankOf (cellOf (getD ws (linksAt + p .link) 0))) ≡ v .skip = omega (arith, a .skip) in
       goes-on fq fr ws q words p r some v (a .beside) (a .down)
-      (ap (λ (k : ℕ). next fq fr (cellOf (getD ws (linksAt + p .link) 0)) (walkBefore q k (p .place))) none ∙ any-met fq fr q (p .place) (cellOf (getD ws (linksAt + p .link) 0)) h f l ∙ ap₂ (walkBefore q) all one)
+      (ap (λ (k : ℕ). next fq fr (cellOf (getD ws (linksAt + p .link) 0)) (walkBefore q k (p .place))) none
+      ∙ any-met fq fr q (p .place) (cellOf (getD ws (linksAt + p .link) 0)) h f l ∙ ap₂ (walkBefore q) all one)
       (let e = a .place-is in omega arith) (let f = a .few in omega arith)
 
 -- ---- siblings that are skipped
@@ -216,10 +255,12 @@ module _ (fq fr : Bool) (ws q : List ℕ) (words : (i : ℕ) → getD ws i 0 < 2
 
       on : Skipped fq fr ws q p x → Skipped fq fr ws q p (nextOf (getD ws (linksAt + x) 0))
       on s =
-          let l = stops fq fr ws q words (moved p x) (s .ready) some (nextOf (getD ws (linksAt + x) 0)) refl (subst (λ (k : ℕ). walkAfter fq fr q (getD ws (linksAt + x) 0) k (p .place) ≡ reading failed) none fails) in
+          let l = stops fq fr ws q words (moved p x) (s .ready) some (nextOf (getD ws (linksAt + x) 0)) refl
+          (subst (λ (k : ℕ). walkAfter fq fr q (getD ws (linksAt + x) 0) k (p .place) ≡ reading failed) none fails) in
           record {
             ready = l .beside-ready;
-            same = s .same ∙ l .gives ∙ ap (λ (y : List ℕ). y ++ hitsAt fq fr ws q (moved p (nextOf (getD ws (linksAt + x) 0)))) (nothing-at fq fr ws q (record { link = 0; skip = 0; place = 0 }) refl);
+            same = s .same ∙ l .gives ∙ ap (λ (y : List ℕ). y ++ hitsAt fq fr ws q (moved p (nextOf (getD ws (linksAt + x) 0))))
+                (nothing-at fq fr ws q (record { link = 0; skip = 0; place = 0 }) refl);
             small = (let a = s .small in let b = l .fewer in omega arith);
             level = (let a = s .level in let b = l .level in omega arith);
           }
@@ -248,7 +289,10 @@ module _ (fq fr : Bool) (ws q : List ℕ) (words : (i : ℕ) → getD ws i 0 < 2
           ∙ ap (λ (y : ℕ). next fq fr y (walkBefore q 0 (p .place))) (sym ec) ∙ met-step fq fr q (p .place) c h ∙ ap reading (sym (s .is))
 
       pub meets-on : alive ≡ true → (d : ℕ) → d ≡ firstOf (getD ws (linksAt + x) 0) → Left fq fr ws q p [] (record { beside = b; down = d; skip = skip′; place = place′ })
-      meets-on t d ed = left-after x (skipped z k) _ (goes-on fq fr ws q words (moved p x) (skipped z k .ready) nz (record { beside = b; down = d; skip = skip′; place = place′ }) eb ed (walk ∙ ap (λ (y : Bool). reading (spot q y skip′ place′)) t) (s .inside) (let f = s .few in omega arith))
+      meets-on t d ed = left-after x (skipped z k) _
+          (goes-on fq fr ws q words (moved p x) (skipped z k .ready) nz (record { beside = b; down = d; skip = skip′; place = place′ }) eb ed
+          (walk ∙ ap (λ (y : Bool). reading (spot q y skip′ place′)) t) (s .inside) (let f = s .few in omega arith))
 
       pub meets-not : alive ≡ false → Left fq fr ws q p [] (record { beside = b; down = 0; skip = 0; place = 0 })
-      meets-not t = left-after x (skipped z k) _ (stops fq fr ws q words (moved p x) (skipped z k .ready) nz b eb (walk ∙ ap (λ (y : Bool). reading (spot q y skip′ place′)) t))
+      meets-not t = left-after x (skipped z k) _
+          (stops fq fr ws q words (moved p x) (skipped z k .ready) nz b eb (walk ∙ ap (λ (y : Bool). reading (spot q y skip′ place′)) t))

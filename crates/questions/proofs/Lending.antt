@@ -65,7 +65,8 @@ module _ (S : RattleType) (outer inner : Lft) (q : Share) (mine : GName) (b o : 
         -- the borrow is opened, and its elements are lent under a new name
         opens-slice ! tt S items b o $
         use1 W (‵ (cells (mem S) items b o)) (whole-in 𝓤 H A W S items b o) $
-        use1 W (later (some (λ (theirs : GName). ‵ (Theirs theirs) ⊛ ‵ (flent inner (Held S (length items) b o theirs))))) (lends-slice 𝓤 H A W S short inner items b o (fits .1)) $
+        use1 W (later (some (λ (theirs : GName). ‵ (Theirs theirs) ⊛ ‵ (flent inner (Held S (length items) b o theirs)))))
+        (lends-slice 𝓤 H A W S short inner items b o (fits .1)) $
         await ! tt $ pick ! (λ theirs. split ! $ at-once ! $
         show ! (λ (name : GName). sep 𝓤 (sem 𝓤 H A (Theirs name)) (sem 𝓤 H A (Claim name items))) theirs $ frame ! $
         -- the rest is the claim
@@ -107,7 +108,8 @@ module _ {M : Type 1} (𝓤 : URA M) (H : Heap 𝓤) (A : Atoms 𝓤) (W : Given
       qed W (‵ (cells (mem R) xs l 0) ∷ []) ∵ use1 W (‵ (row R fullShare xs l 0)) (whole-out 𝓤 H A W R xs l 0) $
       feqI ! ℕ (length xs) 36 e $ fjoin ! $ use1 W (‵ (partAt (Array R 36) fullShare xs l 0)) (array-whole 𝓤 H A W R fullShare 36 xs l 0) $
       fpick ! (λ vs. fsplit ! $ move ! (1 ∷ []) $ peeks ! (Array R 36) (Is (Array R 36)) (shows 𝓤 H A (Array R 36)) xs vs (λ r. drop ! $
-      rewrite ! 0 (λ (us : List Val). ‵ (cellAt fullShare (Array R 36 .mir) us l 0)) (array-tells R (LL.vals T.the-type T′.the-laws) (LL.tells T.the-type T′.the-laws) 36 xs vs r) refl $
+      rewrite ! 0 (λ (us : List Val). ‵ (cellAt fullShare (Array R 36 .mir) us l 0))
+      (array-tells R (LL.vals T.the-type T′.the-laws) (LL.tells T.the-type T′.the-laws) 36 xs vs r) refl $
       use1 W (‵ (fat fullShare τ l 0 _)) (W .laws .raw-at fullShare τ l 0 _) $ use1 W (‵ (froom τ l 0)) (W .laws .at-room τ l 0 _) $ done !))
 
 -- ---- steps with a point in a list, with a flag, and with a shared slice

@@ -71,7 +71,8 @@ pub siblings-none : (ws : List ℕ) → siblings ws 0 ≡ []
 unfolding siblings
 siblings-none ws = ap beside (tip-at ws)
 
-pub siblings-open : (ws : List ℕ) (words : (i : ℕ) → getD ws i 0 < 2 ^ 64) (x : ℕ) (t : Threaded ws x) (some : ¬ (x ≡ 0)) → siblings ws x ≡ n ws words x t some ∷ siblings ws (nextOf (getD ws (linksAt + x) 0))
+pub siblings-open : (ws : List ℕ) (words : (i : ℕ) → getD ws i 0 < 2 ^ 64) (x : ℕ) (t : Threaded ws x) (some : ¬ (x ≡ 0))
+    → siblings ws x ≡ n ws words x t some ∷ siblings ws (nextOf (getD ws (linksAt + x) 0))
 unfolding siblings
 siblings-open ws words x t some = ap beside (opened ws words x t some)
 
@@ -85,7 +86,8 @@ at-end (c ∷ q) (suc place) h = at-end q place (omega arith)
 done-hits : (fq fr : Bool) (m : Shape) (s : State) → done s ≡ true → (t : Trie) → hits (next fq fr) (good fq fr) m (reading s) t ≡ beside t
 done-hits fq fr m s d tip = refl
 done-hits fq fr m s d (node n l r) =
-    ap (λ (b : Bool). keep (good fq fr (onDone b (reading (step fq fr (blankOf (m .cell n)) s)))) n ++ (hits (next fq fr) (good fq fr) m (onDone b (reading (step fq fr (blankOf (m .cell n)) s))) l ++ hits (next fq fr) (good fq fr) m (reading s) r)) d
+    ap (λ (b : Bool). keep (good fq fr (onDone b (reading (step fq fr (blankOf (m .cell n)) s)))) n
+    ++ (hits (next fq fr) (good fq fr) m (onDone b (reading (step fq fr (blankOf (m .cell n)) s))) l ++ hits (next fq fr) (good fq fr) m (reading s) r)) d
     ∙ ap₂ (λ (x y : List ℕ). n ∷ (x ++ y)) (listed-none fq fr m l) (done-hits fq fr m s d r)
 
 module _ (fq fr : Bool) (ws q : List ℕ) (p : Point) (z : p .skip ≤ 0) (h : length q ≤ p .place) where
@@ -115,7 +117,8 @@ pub begins : (ws marks : List ℕ) (link : ℕ) → RulesBeside ws link → Numb
 begins ws marks link a s = record { threaded = a .threaded; sofar = []; marked = marks-none ws marks s; total = refl; low = a .low }
 
 pub marks-all : (ws marks₀ : List ℕ) (link : ℕ) (marks : List ℕ) (x : ℕ) → Marking ws marks₀ link marks x → x ≡ 0 → Marked ws marks₀ marks (siblings ws link)
-marks-all ws marks₀ link marks x s z = subst (Marked ws marks₀ marks) (sym (append-nil (s .sofar)) ∙ ap (λ (l : List ℕ). s .sofar ++ l) (sym (siblings-none ws) ∙ ap (siblings ws) (sym z)) ∙ s .total) (s .marked)
+marks-all ws marks₀ link marks x s z = subst (Marked ws marks₀ marks)
+    (sym (append-nil (s .sofar)) ∙ ap (λ (l : List ℕ). s .sofar ++ l) (sym (siblings-none ws) ∙ ap (siblings ws) (sym z)) ∙ s .total) (s .marked)
 
 module _ (ws : List ℕ) (words : (i : ℕ) → getD ws i 0 < 2 ^ 64) (marks₀ : List ℕ) (link : ℕ) (marks : List ℕ) (x : ℕ) (s : Marking ws marks₀ link marks x) (some : ¬ (x ≡ 0)) (c : ℕ) (ec : c ≡ cellOf (getD ws (linksAt + x) 0)) where
   abbrev this : ℕ
@@ -129,7 +132,8 @@ module _ (ws : List ℕ) (words : (i : ℕ) → getD ws i 0 < 2 ^ 64) (marks₀ 
   more = append-assoc (s .sofar) (this ∷ []) _ ∙ ap (λ (l : List ℕ). s .sofar ++ l) (sym (siblings-open ws words x (s .threaded) some)) ∙ s .total
 
   pub number-low : c < ruleNumbers
-  number-low = subst (λ (k : ℕ). k < ruleNumbers) is-cell (s .low this (subst (List·Memᴰ this) more (Memᴰ·append-left _ (Memᴰ·append-right (s .sofar) (List·Memᴰ·head refl)))))
+  number-low = subst (λ (k : ℕ). k < ruleNumbers) is-cell
+      (s .low this (subst (List·Memᴰ this) more (Memᴰ·append-left _ (Memᴰ·append-right (s .sofar) (List·Memᴰ·head refl)))))
 
   pub marks-next : (marks′ : List ℕ) → PutsNumber marks marks′ c → (y : ℕ) → y ≡ nextOf (getD ws (linksAt + x) 0) → Marking ws marks₀ link marks′ y
   marks-next marks′ put y e = subst (Marking ws marks₀ link marks′) (sym e) (record {

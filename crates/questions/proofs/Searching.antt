@@ -127,7 +127,8 @@ module _ (fq fr : Bool) (ws q : List ℕ) (b : Book ws q) where
           subst (λ (c : ℕ). c < ruleNumbers) (ap (view ws .tree .cell) (sym (x .1))) (b .passing .right .records (x .0) (x .2) .low);
     }
 
-    pub starts : (marks : List ℕ) (l : List Point) → NumberSet marks → length l ≡ 36 → pointAt l 0 ≡ record { link = first; skip = 0; place = 0 } → Searching marks marks l 1
+    pub starts : (marks : List ℕ) (l : List Point) → NumberSet marks → length l ≡ 36 → pointAt l 0 ≡ record { link = first; skip = 0; place = 0 }
+        → Searching marks marks l 1
     unfolding waiting
     starts marks l set long is = record {
       long = long;
@@ -135,7 +136,8 @@ module _ (fq fr : Bool) (ws q : List ℕ) (b : Book ws q) where
       sofar = [];
       marked = marks-none ws marks set;
       total = append-nil _ ∙ ap (hitsAt fq fr ws q) is ∙ root-hits;
-      stand = λ j h. let z : 0 ≡ j = omega arith in subst (λ (i : ℕ). Good fq fr ws q (pointAt l i) i) z (subst (λ (p : Point). Good fq fr ws q p 0) (sym is) (record { ready = root-ready; high = (let h = root-low in omega arith) }));
+      stand = λ j h. let z : 0 ≡ j = omega arith in subst (λ (i : ℕ). Good fq fr ws q (pointAt l i) i) z
+          (subst (λ (p : Point). Good fq fr ws q p 0) (sym is) (record { ready = root-ready; high = (let h = root-low in omega arith) }));
     }
 
   -- ---- the end
@@ -216,17 +218,21 @@ module _ (fq fr : Bool) (ws q marks₀ marks : List ℕ) (l : List Point) (depth
 
       -- the points before it stay
       others : (j : ℕ) → j < depth - 1 → pointAt l′ j ≡ pointAt l j
-      others j a = getD-set-other two (depth + 1) j (r .below) _ (λ e. omega arith) ∙ getD-set-other one depth j (r .beside) _ (λ e. omega arith) ∙ getD-set-other l (depth - 1) j (r .waits) _ (λ e. omega arith)
+      others j a = getD-set-other two (depth + 1) j (r .below) _ (λ e. omega arith) ∙ getD-set-other one depth j (r .beside) _ (λ e. omega arith)
+          ∙ getD-set-other l (depth - 1) j (r .waits) _ (λ e. omega arith)
 
       waits-is : pointAt l′ (depth - 1) ≡ r .waits
-      waits-is = getD-set-other two (depth + 1) (depth - 1) (r .below) _ (λ e. omega arith) ∙ getD-set-other one depth (depth - 1) (r .beside) _ (λ e. omega arith) ∙ getD-set-same l (depth - 1) (r .waits) _ (let d = s .deep in omega (arith, s .long))
+      waits-is = getD-set-other two (depth + 1) (depth - 1) (r .below) _ (λ e. omega arith)
+          ∙ getD-set-other one depth (depth - 1) (r .beside) _ (λ e. omega arith) ∙ getD-set-same l (depth - 1) (r .waits) _ (let d = s .deep in omega (arith, s .long))
 
       beside-is : pointAt l′ depth ≡ r .beside
-      beside-is = getD-set-other two (depth + 1) depth (r .below) _ (λ e. omega arith) ∙ getD-set-same one depth (r .beside) _ (let d = s .deep in omega (arith, s .long, length-set l (depth - 1) (r .waits)))
+      beside-is = getD-set-other two (depth + 1) depth (r .below) _ (λ e. omega arith)
+          ∙ getD-set-same one depth (r .beside) _ (let d = s .deep in omega (arith, s .long, length-set l (depth - 1) (r .waits)))
 
       below-is : pointAt l′ (suc depth) ≡ r .below
       below-is = let up : suc depth ≡ depth + 1 = omega arith in
-          ap (pointAt l′) up ∙ getD-set-same two (depth + 1) (r .below) _ (let d = s .deep in omega (arith, s .long, length-set l (depth - 1) (r .waits), length-set one depth (r .beside)))
+          ap (pointAt l′) up ∙ getD-set-same two (depth + 1) (r .below) _
+          (let d = s .deep in omega (arith, s .long, length-set l (depth - 1) (r .waits), length-set one depth (r .beside)))
 
       stand′ : (j : ℕ) → j < depth - 1 → Good fq fr ws q (pointAt l′ j) j
       stand′ j a = subst (λ (x : Point). Good fq fr ws q x j) (sym (others j a)) (s .stand j (omega arith))
@@ -241,7 +247,8 @@ module _ (fq fr : Bool) (ws q marks₀ marks : List ℕ) (l : List Point) (depth
         total′ : (x y : List ℕ) → hitsAt fq fr ws q p ≡ nodes ++ x → x ++ rest ≡ y → (s .sofar ++ nodes) ++ y ≡ all fq fr ws q (i .0)
         total′ x y e f =
             ap (λ (z : List ℕ). (s .sofar ++ nodes) ++ z) (sym f) ∙ append-assoc (s .sofar) nodes (x ++ rest)
-            ∙ ap (λ (z : List ℕ). s .sofar ++ z) (sym (append-assoc nodes x rest) ∙ ap (λ (z : List ℕ). z ++ rest) (sym e) ∙ sym (waiting-last fq fr ws q l depth h)) ∙ s .total
+            ∙ ap (λ (z : List ℕ). s .sofar ++ z)
+            (sym (append-assoc nodes x rest) ∙ ap (λ (z : List ℕ). z ++ rest) (sym e) ∙ sym (waiting-last fq fr ws q l depth h)) ∙ s .total
 
         goes-away : hitsAt fq fr ws q p ≡ nodes → Again fq fr ws q marks₀ l depth marks′ l′ (depth - 1)
         goes-away e = record {
@@ -278,7 +285,9 @@ module _ (fq fr : Bool) (ws q marks₀ marks : List ℕ) (l : List Point) (depth
               deep = (let a = last .high in let c = t .deepest in omega arith);
               sofar = s .sofar ++ nodes;
               marked = marked′;
-              total = total′ _ _ (t .gives) (append-assoc below (beside ++ waits) rest ∙ ap₂ (λ (x : Point) (y : List ℕ). hitsAt fq fr ws q x ++ y) (sym below-is) (append-assoc beside waits rest ∙ ap₂ (λ (x : Point) (y : List ℕ). hitsAt fq fr ws q x ++ y) (sym beside-is) (sym first)));
+              total = total′ _ _ (t .gives) (append-assoc below (beside ++ waits) rest
+                  ∙ ap₂ (λ (x : Point) (y : List ℕ). hitsAt fq fr ws q x ++ y) (sym below-is)
+                  (append-assoc beside waits rest ∙ ap₂ (λ (x : Point) (y : List ℕ). hitsAt fq fr ws q x ++ y) (sym beside-is) (sym first)));
               stand = λ j a. stands j (ℕ-discrete j (suc depth)) (ℕ-discrete j depth) (ℕ-discrete j (depth - 1)) a;
             },
           );
@@ -294,17 +303,34 @@ module _ (fq fr : Bool) (ws q marks₀ marks : List ℕ) (l : List Point) (depth
         }
           where
             first : waiting fq fr ws q l′ depth ≡ waits ++ rest
-            first = waiting-last fq fr ws q l′ depth h ∙ ap₂ (λ (x : Point) (y : List ℕ). hitsAt fq fr ws q x ++ y) waits-is (waiting-same fq fr ws q l l′ (depth - 1) others)
+            first = waiting-last fq fr ws q l′ depth h
+                ∙ ap₂ (λ (x : Point) (y : List ℕ). hitsAt fq fr ws q x ++ y) waits-is (waiting-same fq fr ws q l l′ (depth - 1) others)
 
             stands : (j : ℕ) → Dec (j ≡ suc depth) → Dec (j ≡ depth) → Dec (j ≡ depth - 1) → j < suc (suc depth) → Good fq fr ws q (pointAt l′ j) j
-            stands j (yes e) f g a = subst (λ (i : ℕ). Good fq fr ws q (pointAt l′ i) i) (sym e) (subst (λ (x : Point). Good fq fr ws q x (suc depth)) (sym below-is) (record { ready = t .below-ready; high = (let b = last .high in let c = t .deepest in omega arith) }))
-            stands j (no e) (yes f) g a = subst (λ (i : ℕ). Good fq fr ws q (pointAt l′ i) i) (sym f) (subst (λ (x : Point). Good fq fr ws q x depth) (sym beside-is) (record { ready = t .beside-ready; high = (let b = last .high in let c = t .deeper in omega arith) }))
-            stands j (no e) (no f) (yes g) a = subst (λ (i : ℕ). Good fq fr ws q (pointAt l′ i) i) (sym g) (subst (λ (x : Point). Good fq fr ws q x (depth - 1)) (sym waits-is) (record { ready = t .waits-ready; high = (let b = last .high in let c = t .level in omega arith) }))
+            stands j (yes e) f g a = subst (λ (i : ℕ). Good fq fr ws q (pointAt l′ i) i) (sym e)
+                (subst (λ (x : Point). Good fq fr ws q x (suc depth)) (sym below-is) (record {
+                  ready = t .below-ready;
+                  high = (let b = last .high in
+                      let c = t .deepest in omega arith);
+                }))
+            stands j (no e) (yes f) g a = subst (λ (i : ℕ). Good fq fr ws q (pointAt l′ i) i) (sym f)
+                (subst (λ (x : Point). Good fq fr ws q x depth) (sym beside-is) (record {
+                  ready = t .beside-ready;
+                  high = (let b = last .high in
+                      let c = t .deeper in omega arith);
+                }))
+            stands j (no e) (no f) (yes g) a = subst (λ (i : ℕ). Good fq fr ws q (pointAt l′ i) i) (sym g)
+                (subst (λ (x : Point). Good fq fr ws q x (depth - 1)) (sym waits-is) (record {
+                  ready = t .waits-ready;
+                  high = (let b = last .high in
+                      let c = t .level in omega arith);
+                }))
             stands j (no e) (no f) (no g) a = stand′ j (omega arith)
 
         after : Goes fq fr ws q p nodes depth r → Again fq fr ws q marks₀ l depth marks′ l′ (r .depth)
         after (gone e d) = subst (Again fq fr ws q marks₀ l depth marks′ l′) (sym d) (goes-away e)
         after (parts t d) = let up : suc (suc depth) ≡ r .depth = omega (arith, d) in subst (Again fq fr ws q marks₀ l depth marks′ l′) up (comes-apart t)
 
-      pub turned : Went fq fr ws q marks marks′ (pointAt l (depth - 1)) depth r → Again fq fr ws q marks₀ l depth marks′ (set (set (set l (depth - 1) (r .waits)) depth (r .beside)) (depth + 1) (r .below)) (r .depth)
+      pub turned : Went fq fr ws q marks marks′ (pointAt l (depth - 1)) depth r
+          → Again fq fr ws q marks₀ l depth marks′ (set (set (set l (depth - 1) (r .waits)) depth (r .beside)) (depth + 1) (r .below)) (r .depth)
       turned w = after (w .nodes) (w .marked) (w .goes)

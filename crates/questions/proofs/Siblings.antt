@@ -40,7 +40,8 @@ module _ (fq fr : Bool) (q : List ℕ) (place d : ℕ) (h : place < length q) wh
   met = ap (λ (r : Row Blank). next fq fr d (reading (at 0 r))) (cells-from q place h)
 
   pub met-step : next fq fr d (walkBefore q 0 place) ≡ reading (step fq fr (blankOf d) (spot q true 0 place))
-  met-step = ap (λ (r : Row Blank). next fq fr d (reading (at 0 r))) (cells-from q place h) ∙ sym (ap (λ (r : Row Blank). reading (step fq fr (blankOf d) (at 0 r))) (cells-from q place h))
+  met-step = ap (λ (r : Row Blank). next fq fr d (reading (at 0 r))) (cells-from q place h)
+      ∙ sym (ap (λ (r : Row Blank). reading (step fq fr (blankOf d) (at 0 r))) (cells-from q place h))
 
   -- whatever the rule's cell is, where the question's may be filled
   pub any-met : fq ≡ true → 32768 ≤ getD q place 0 → next fq fr d (walkBefore q 0 place) ≡ reading (at (arity (blankOf d)) (drop (suc place) (blankForm q)))
@@ -66,7 +67,8 @@ module _ (fq fr : Bool) (q : List ℕ) (place d : ℕ) (h : place < length q) wh
       ∙ ap (λ (b : Bool). reading (onlyIf b (at 0 (past (getD q place 0 / 4096) (drop (suc place) (blankForm q)))))) f
 
 pub one-symbol : (fq : Bool) (q : List ℕ) (place : ℕ) → place < length q → getD q place 0 < 32768 → Decisive fq q place (getD q place 0)
-one-symbol fq q place h l = record { free = λ e. absurd (omega arith); symbols = λ _ fr d s n. other-symbol fq fr q place d h s l n; any = λ _ d n. go d n (decLt d 32768) }
+one-symbol fq q place h l = record
+    { free = λ e. absurd (omega arith); symbols = λ _ fr d s n. other-symbol fq fr q place d h s l n; any = λ _ d n. go d n (decLt d 32768) }
   where
     go : (d : ℕ) → ¬ (d ≡ getD q place 0) → Dec (d < 32768) → next fq false d (walkBefore q 0 place) ≡ reading failed
     go d n (yes s) = other-symbol fq false q place d h s l n
@@ -90,7 +92,8 @@ threaded ws cell link x t (pass-on {x = y} by some low other) = beside-threaded 
 
 -- Behind the symbol wanted all siblings are above it, and the machine fails at each of them.
 module _ (fq : Bool) (ws q : List ℕ) (place link cell : ℕ) (small : cell < 32768) (d : Decisive fq q place cell) (words : (i : ℕ) → getD ws i 0 < 2 ^ 64) where
-  to-the-end : (fuel x : ℕ) → size (trie (view ws .tree) x) ≤ fuel → Threaded ws x → (¬ (x ≡ 0) → cell < cellOf (getD ws (linksAt + x) 0)) → Skips fq false ws q place link x → Skips fq false ws q place link 0
+  to-the-end : (fuel x : ℕ) → size (trie (view ws .tree) x) ≤ fuel → Threaded ws x → (¬ (x ≡ 0) → cell < cellOf (getD ws (linksAt + x) 0))
+      → Skips fq false ws q place link x → Skips fq false ws q place link 0
   to-the-end zero x s t above k = go (ℕ-discrete x 0)
     where
       go : Dec (x ≡ 0) → Skips fq false ws q place link 0
@@ -102,13 +105,16 @@ module _ (fq : Bool) (ws q : List ℕ) (place link cell : ℕ) (small : cell < 3
       go ih (yes z) = subst (Skips fq false ws q place link) z k
       go ih (no nz) =
           let a = above nz in
-          ih (nextOf (getD ws (linksAt + x) 0)) (let l = beside-smaller ws x t nz words in omega arith) (beside-threaded ws x t nz) (λ ny. let b = beside-above ws x t nz ny in omega arith)
+          ih (nextOf (getD ws (linksAt + x) 0)) (let l = beside-smaller ws x t nz words in omega arith) (beside-threaded ws x t nz)
+          (λ ny. let b = beside-above ws x t nz ny in omega arith)
           (skip-on k nz (d .any small (cellOf (getD ws (linksAt + x) 0)) (λ e. absurd (omega arith))))
 
-pub seeking : (fq fr : Bool) (ws q : List ℕ) (place link cell last r : ℕ) → ((i : ℕ) → getD ws i 0 < 2 ^ 64) → Threaded ws link → ¬ (cell ≡ 65536) → Decisive fq q place cell
+pub seeking : (fq fr : Bool) (ws q : List ℕ) (place link cell last r : ℕ) → ((i : ℕ) → getD ws i 0 < 2 ^ 64) → Threaded ws link → ¬ (cell ≡ 65536)
+    → Decisive fq q place cell
     → LastWanted fr cell last → Sought ws cell last link r → Skips fq fr ws q place link r
 seeking fq fr ws q place link cell last r words t n d w (reached by) = skipping fq fr ws q place cell link r n d by
 seeking fq fr ws q place link cell last r words t n d (inr e) (beyond {x} by some above low z) = absurd (omega arith)
 seeking fq fr ws q place link cell last r words t n d (inl e) (beyond {x} by some above low z) =
     subst (λ (b : Bool). Skips fq b ws q place link r) (sym (e .0)) (subst (Skips fq false ws q place link) (sym z)
-    (to-the-end fq ws q place link cell (let f = e .1 in omega arith) d words (size (trie (view ws .tree) x)) x (omega arith) (threaded ws cell link x t by) (λ _. (let f = e .1 in omega arith)) (skipping fq false ws q place cell link x n d by)))
+    (to-the-end fq ws q place link cell (let f = e .1 in omega arith) d words (size (trie (view ws .tree) x)) x (omega arith)
+    (threaded ws cell link x t by) (λ _. (let f = e .1 in omega arith)) (skipping fq false ws q place cell link x n d by)))

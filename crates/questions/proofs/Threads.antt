@@ -50,13 +50,15 @@ module _ (ws : List ℕ) (p : Passing ws) where
   next-used n u y e = tree .goes (after n) u (next-is n u ∙ e) .used
 
   -- siblings ascend
-  pub next-above : (n : ℕ) → Used (view ws .tree) n → (y : ℕ) → nextOf (getD ws (linksAt + suc n) 0) ≡ suc y → cellOf (getD ws (linksAt + suc n) 0) < cellOf (getD ws (linksAt + suc y) 0)
+  pub next-above : (n : ℕ) → Used (view ws .tree) n → (y : ℕ) → nextOf (getD ws (linksAt + suc n) 0) ≡ suc y
+      → cellOf (getD ws (linksAt + suc n) 0) < cellOf (getD ws (linksAt + suc y) 0)
   next-above n u y e =
       let f = tree .goes (after n) u (next-is n u ∙ e) in
       let a = f .above in
       omega (arith, ap cellOf (word-of n u), ap cellOf (word-of y (f .used)))
 
-  pub next-less : ((i : ℕ) → getD ws i 0 < 2 ^ 64) → (n : ℕ) → Used (view ws .tree) n → size (trie (view ws .tree) (nextOf (getD ws (linksAt + suc n) 0))) < size (trie (view ws .tree) (suc n))
+  pub next-less : ((i : ℕ) → getD ws i 0 < 2 ^ 64) → (n : ℕ) → Used (view ws .tree) n
+      → size (trie (view ws .tree) (nextOf (getD ws (linksAt + suc n) 0))) < size (trie (view ws .tree) (suc n))
   next-less all n u =
       let o = ap size (opens (view ws .tree) tree (bound all) n u) in
       let e = ap (λ (x : ℕ). size (trie (view ws .tree) x)) (next-is n u) in
@@ -82,11 +84,13 @@ module _ (ws : List ℕ) (x : ℕ) (t : Threaded ws x) (some : ¬ (x ≡ 0)) whe
 
   pub beside-smaller : ((i : ℕ) → getD ws i 0 < 2 ^ 64) → size (trie (view ws .tree) (nextOf (getD ws (linksAt + x) 0))) < size (trie (view ws .tree) x)
   beside-smaller all =
-      subst (λ (k : ℕ). size (trie (view ws .tree) (nextOf (getD ws (linksAt + k) 0))) < size (trie (view ws .tree) k)) (sym is) (next-less ws (t .passing) all n (t .used n is))
+      subst (λ (k : ℕ). size (trie (view ws .tree) (nextOf (getD ws (linksAt + k) 0))) < size (trie (view ws .tree) k)) (sym is)
+      (next-less ws (t .passing) all n (t .used n is))
 
   pub beside-above : ¬ (nextOf (getD ws (linksAt + x) 0) ≡ 0) → cellOf (getD ws (linksAt + x) 0) < cellOf (getD ws (linksAt + nextOf (getD ws (linksAt + x) 0)) 0)
   beside-above nz =
       let y : ℕ = nextOf (getD ws (linksAt + x) 0) - 1 in
       let ey : nextOf (getD ws (linksAt + x) 0) ≡ suc y = omega arith in
       subst (λ (k : ℕ). cellOf (getD ws (linksAt + x) 0) < cellOf (getD ws (linksAt + k) 0)) (sym ey)
-      (subst (λ (k : ℕ). cellOf (getD ws (linksAt + k) 0) < cellOf (getD ws (linksAt + suc y) 0)) (sym is) (next-above ws (t .passing) n (t .used n is) y (ap (λ (k : ℕ). nextOf (getD ws (linksAt + k) 0)) (sym is) ∙ ey)))
+      (subst (λ (k : ℕ). cellOf (getD ws (linksAt + k) 0) < cellOf (getD ws (linksAt + suc y) 0)) (sym is)
+      (next-above ws (t .passing) n (t .used n is) y (ap (λ (k : ℕ). nextOf (getD ws (linksAt + k) 0)) (sym is) ∙ ey)))

@@ -51,7 +51,8 @@ module _ (fq fr : Bool) (ws q : List ℕ) where
     ends z depth r e = record {
       nodes = s .sofar;
       marked = s .marked;
-      goes = gone (sym (s .total) ∙ ap (λ (l : List ℕ). s .sofar ++ l) (ap₂ _++_ (nothing-at fq fr ws q x z) (nothing-at fq fr ws q w (s .alone z))) ∙ append-nil (s .sofar)) e;
+      goes = gone (sym (s .total) ∙ ap (λ (l : List ℕ). s .sofar ++ l) (ap₂ _++_ (nothing-at fq fr ws q x z) (nothing-at fq fr ws q w (s .alone z)))
+          ∙ append-nil (s .sofar)) e;
     }
 
     module _ (marks′ : List ℕ) (v : Ways) (t : Tried fq fr ws q marks marks′ x v) where
@@ -71,7 +72,8 @@ module _ (fq fr : Bool) (ws q : List ℕ) where
       marked′ = marks-on ws marks₀ marks marks′ (s .sofar) (t .nodes) (s .marked) (t .marked)
 
       total′ : sofar′ ++ ((below ++ beside) ++ waits) ≡ hitsAt fq fr ws q p
-      total′ = append-assoc (s .sofar) (t .nodes) _ ∙ ap (λ (l : List ℕ). s .sofar ++ l) (sym (append-assoc (t .nodes) (below ++ beside) waits) ∙ ap (λ (l : List ℕ). l ++ waits) (sym (t .left .gives))) ∙ s .total
+      total′ = append-assoc (s .sofar) (t .nodes) _
+          ∙ ap (λ (l : List ℕ). s .sofar ++ l) (sym (append-assoc (t .nodes) (below ++ beside) waits) ∙ ap (λ (l : List ℕ). l ++ waits) (sym (t .left .gives))) ∙ s .total
 
       -- there is no child: the sibling is next
       pub passes : v .down ≡ 0 → ¬ (v .beside ≡ 0) → Turning marks₀ p marks′ (record { link = v .beside; skip = x .skip; place = x .place }) w
@@ -88,7 +90,8 @@ module _ (fq fr : Bool) (ws q : List ℕ) where
       }
 
       -- there is neither: the one that waits is next
-      pub turns-back : (words : (i : ℕ) → getD ws i 0 < 2 ^ 64) → v .down ≡ 0 → v .beside ≡ 0 → Turning marks₀ p marks′ w (record { link = 0; skip = w .skip; place = w .place })
+      pub turns-back : (words : (i : ℕ) → getD ws i 0 < 2 ^ 64) → v .down ≡ 0 → v .beside ≡ 0
+          → Turning marks₀ p marks′ w (record { link = 0; skip = w .skip; place = w .place })
       turns-back words z n = record {
         ready = s .waits-ready;
         waits-ready = empty fq fr ws q words w (s .waits-ready) (w .skip) (w .place) (few-here fq fr ws q words w (s .waits-ready)) (s .waits-ready .inside);
@@ -105,7 +108,11 @@ module _ (fq fr : Bool) (ws q : List ℕ) where
       }
 
       pub back-less : sizeAt ws (w .link) + sizeAt ws 0 < sizeAt ws (x .link) + sizeAt ws (w .link)
-      back-less = let z = ap size (tip-at ws) in let a = t .left .fewer in let b = positive (trie (view ws .tree) (v .down)) in let c = positive (trie (view ws .tree) (v .beside)) in omega arith
+      back-less =
+          let z = ap size (tip-at ws) in
+          let a = t .left .fewer in
+          let b = positive (trie (view ws .tree) (v .down)) in
+          let c = positive (trie (view ws .tree) (v .beside)) in omega arith
 
       -- there is no sibling: the child is next
       pub descends : v .beside ≡ 0 → ¬ (v .down ≡ 0) → Turning marks₀ p marks′ (record { link = v .down; skip = v .skip; place = v .place }) w
@@ -114,7 +121,8 @@ module _ (fq fr : Bool) (ws q : List ℕ) where
         waits-ready = s .waits-ready;
         sofar = sofar′;
         marked = marked′;
-        total = ap (λ (l : List ℕ). sofar′ ++ (l ++ waits)) (sym (append-nil below) ∙ ap (λ (l : List ℕ). below ++ l) (sym (nothing-at fq fr ws q (besideOf x v) z))) ∙ total′;
+        total = ap (λ (l : List ℕ). sofar′ ++ (l ++ waits))
+            (sym (append-nil below) ∙ ap (λ (l : List ℕ). below ++ l) (sym (nothing-at fq fr ws q (besideOf x v) z))) ∙ total′;
         small = (let a = s .small .0 in let b = t .left .fewer in (omega arith, s .small .1));
         level = (let a = s .level .0 in let b = t .left .deeper in (omega arith, s .level .1));
         both = λ n. let a = s .both n in let c = a .0 in let d = a .1 in let b = t .left .fewer in let e = t .left .deeper in (omega arith, omega arith);
@@ -122,13 +130,15 @@ module _ (fq fr : Bool) (ws q : List ℕ) where
       }
 
       -- there are both, and none waits: the child is next, and the sibling waits
-      pub leaves-one : w .link ≡ 0 → ¬ (v .down ≡ 0) → Turning marks₀ p marks′ (record { link = v .down; skip = v .skip; place = v .place }) (record { link = v .beside; skip = x .skip; place = x .place })
+      pub leaves-one : w .link ≡ 0 → ¬ (v .down ≡ 0)
+          → Turning marks₀ p marks′ (record { link = v .down; skip = v .skip; place = v .place }) (record { link = v .beside; skip = x .skip; place = x .place })
       leaves-one z some = record {
         ready = t .left .below-ready;
         waits-ready = t .left .beside-ready;
         sofar = sofar′;
         marked = marked′;
-        total = ap (λ (l : List ℕ). sofar′ ++ l) (sym (append-nil (below ++ beside)) ∙ ap (λ (l : List ℕ). (below ++ beside) ++ l) (sym (nothing-at fq fr ws q w z))) ∙ total′;
+        total = ap (λ (l : List ℕ). sofar′ ++ l)
+            (sym (append-nil (below ++ beside)) ∙ ap (λ (l : List ℕ). (below ++ beside) ++ l) (sym (nothing-at fq fr ws q w z))) ∙ total′;
         small = (let a = s .small .0 in let b = t .left .fewer in (omega arith, omega arith));
         level = (let a = s .level .0 in let b = t .left .deeper in let c = t .left .level in (omega arith, omega arith));
         both = λ n. let a = s .small .0 in let b = t .left .fewer in let c = s .level .0 in let d = t .left .deeper in (omega arith, omega arith);
@@ -136,11 +146,14 @@ module _ (fq fr : Bool) (ws q : List ℕ) where
       }
 
       -- there are both, and one waits
-      pub parts-here : ¬ (w .link ≡ 0) → (depth : ℕ) (r : Points) → Parted (w .link) (w .skip) (w .place) (x .skip) (x .place) v depth r → Went fq fr ws q marks₀ marks′ p depth r
+      pub parts-here : ¬ (w .link ≡ 0) → (depth : ℕ) (r : Points) → Parted (w .link) (w .skip) (w .place) (x .skip) (x .place) v depth r
+          → Went fq fr ws q marks₀ marks′ p depth r
       parts-here n depth r h = record {
         nodes = sofar′;
         marked = marked′;
-        goes = parts (subst (λ (y : Point). Parts fq fr ws q p sofar′ y (r .beside) (r .waits)) (sym (h .below-is)) (subst (λ (y : Point). Parts fq fr ws q p sofar′ (belowOf v) y (r .waits)) (sym (h .beside-is)) (subst (Parts fq fr ws q p sofar′ (belowOf v) (besideOf x v)) (sym (h .waits-is)) three))) (h .depth-is);
+        goes = parts (subst (λ (y : Point). Parts fq fr ws q p sofar′ y (r .beside) (r .waits)) (sym (h .below-is))
+            (subst (λ (y : Point). Parts fq fr ws q p sofar′ (belowOf v) y (r .waits)) (sym (h .beside-is))
+            (subst (Parts fq fr ws q p sofar′ (belowOf v) (besideOf x v)) (sym (h .waits-is)) three))) (h .depth-is);
       }
         where
           three : Parts fq fr ws q p sofar′ (belowOf v) (besideOf x v) w

@@ -45,7 +45,8 @@ pub begins-count : (marks : List ℕ) (k : ℕ) → NumberSet marks → NextNumb
 unfolding each
 begins-count marks k map f = record { map = map; upto = f .within; here = f .here; count = ap length (sym (skips marks 0 k f)) }
 
-pub begins : (marks out : List ℕ) (k : ℕ) → NumberSet marks → length (numbers (has marks) ruleNumbers) ≤ length out → NextNumber marks 0 ruleNumbers k → Written marks out out 0 k
+pub begins : (marks out : List ℕ) (k : ℕ) → NumberSet marks → length (numbers (has marks) ruleNumbers) ≤ length out → NextNumber marks 0 ruleNumbers k
+    → Written marks out out 0 k
 unfolding each
 begins marks out k map fits f = record { counted = begins-count marks k map f; fits = fits; is = ap (λ (z : List ℕ). z ++ out) (sym (skips marks 0 k f)) }
 

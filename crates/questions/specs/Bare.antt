@@ -58,10 +58,12 @@ module _ (rules : Rules) (wr : WholeRules rules) (k : ℕ) (r : Rule) (low : k <
   t = r .term
 
   pub all-instances : List·Memᴰ k (answers instances bare rules)
-  all-instances = lists instances bare rules bare-term wr k .1 (record { low = low; its = r; held = held; answers = instance-of (blankForm t) (term-form t (wr k r held)) })
+  all-instances = lists instances bare rules bare-term wr k .1
+      (record { low = low; its = r; held = held; answers = instance-of (blankForm t) (term-form t (wr k r held)) })
 
   pub all-unifiables : List·Memᴰ k (answers unifiables bare rules)
-  all-unifiables = lists unifiables bare rules bare-term wr k .1 (record { low = low; its = r; held = held; answers = unifies-with (blankForm t) (term-form t (wr k r held)) })
+  all-unifiables = lists unifiables bare rules bare-term wr k .1
+      (record { low = low; its = r; held = held; answers = unifies-with (blankForm t) (term-form t (wr k r held)) })
 
   pub bare-variants : List·Memᴰ k (answers variants bare rules) → blankForm t ≡ star ∷ []
   unfolding Answers

@@ -28,7 +28,8 @@ module _ (u : ℕ → Bool) where
   pub numbers-split : (a b : ℕ) → a ≤ b → numbers u b ≡ numbers u a ++ each (λ k. keepIf (u k) k) (b - a) a
   numbers-split a b h =
       let e : b ≡ a + (b - a) = omega arith in
-      ap (numbers u) e ∙ each-split (λ k. keepIf (u k) k) a (b - a) 0 ∙ ap (λ (j : ℕ). numbers u a ++ each (λ k. keepIf (u k) k) (b - a) j) (native.Mathlib.Nat.zero-add a)
+      ap (numbers u) e ∙ each-split (λ k. keepIf (u k) k) a (b - a) 0
+      ∙ ap (λ (j : ℕ). numbers u a ++ each (λ k. keepIf (u k) k) (b - a) j) (native.Mathlib.Nat.zero-add a)
 
   pub numbers-skip : (a b : ℕ) → a ≤ b → ((k : ℕ) → a ≤ k → k < b → u k ≡ false) → numbers u b ≡ numbers u a
   numbers-skip a b h none =
@@ -40,7 +41,8 @@ module _ (u : ℕ → Bool) where
   unfolding each
   numbers-one a =
       let e : suc a ≡ a + 1 = omega arith in
-      ap (numbers u) e ∙ each-split (λ k. keepIf (u k) k) a 1 0 ∙ ap (λ (z : List ℕ). numbers u a ++ z) (append-nil _ ∙ ap (λ (j : ℕ). keepIf (u j) j) (native.Mathlib.Nat.zero-add a))
+      ap (numbers u) e ∙ each-split (λ k. keepIf (u k) k) a 1 0
+      ∙ ap (λ (z : List ℕ). numbers u a ++ z) (append-nil _ ∙ ap (λ (j : ℕ). keepIf (u j) j) (native.Mathlib.Nat.zero-add a))
 
   pub numbers-more : (a b : ℕ) → a ≤ b → length (numbers u a) ≤ length (numbers u b)
   numbers-more a b h = omega (arith, ap length (numbers-split a b h) ∙ length-append (numbers u a) _)
@@ -69,7 +71,8 @@ is false true f g = absurd (true≢false (g refl) refl)
 is false false f g = refl
 
 -- and where the marks are those of the rules that answer, in order they are the answers
-pub marked-answers : (mode : Mode) (ws q marks : List ℕ) → Asked (fillsQuestion mode) (fillsRule mode) ws q marks → inOrder (rulesIn ws) (has marks) ≡ answers mode q (rulesIn ws)
+pub marked-answers : (mode : Mode) (ws q marks : List ℕ) → Asked (fillsQuestion mode) (fillsRule mode) ws q marks
+    → inOrder (rulesIn ws) (has marks) ≡ answers mode q (rulesIn ws)
 unfolding answers
 marked-answers mode ws q marks a = same-marks (rulesIn ws) (has marks) (λ k. answering mode q (rulesIn ws k)) (λ k. same k (rulesIn ws k) refl)
   where
@@ -84,7 +87,8 @@ marked-answers mode ws q marks a = same-marks (rulesIn ws) (has marks) (λ k. an
         (λ m. a k .1 (record { its = r; held = e; accepted = m }))
 
 -- as many as are marked
-pub marked-many : (mode : Mode) (ws q marks : List ℕ) → Asked (fillsQuestion mode) (fillsRule mode) ws q marks → length (numbers (has marks) ruleNumbers) ≡ length (answers mode q (rulesIn ws))
+pub marked-many : (mode : Mode) (ws q marks : List ℕ) → Asked (fillsQuestion mode) (fillsRule mode) ws q marks
+    → length (numbers (has marks) ruleNumbers) ≡ length (answers mode q (rulesIn ws))
 marked-many mode ws q marks a = sym (as-many (rulesIn ws) (has marks)) ∙ ap length (marked-answers mode ws q marks a)
 
 -- Demand 2 for a book: what is listed is each rule that is in the relation with the question, and no other.

@@ -38,7 +38,8 @@ pub record Threaded (ws : List ℕ) (link : ℕ) : Type 0 where
 -- From the link on, sibling by sibling, to x: each that is passed is a symbol, and not the one with the cell.
 pub data PassesBy (ws : List ℕ) (cell link : ℕ) : ℕ → Type 0 where
   start : PassesBy ws cell link link
-  pass-on : {x : ℕ} → PassesBy ws cell link x → ¬ (x ≡ 0) → cellOf (getD ws (linksAt + x) 0) < 32768 → ¬ (cellOf (getD ws (linksAt + x) 0) ≡ cell) → PassesBy ws cell link (nextOf (getD ws (linksAt + x) 0))
+  pass-on : {x : ℕ} → PassesBy ws cell link x → ¬ (x ≡ 0) → cellOf (getD ws (linksAt + x) 0) < 32768 → ¬ (cellOf (getD ws (linksAt + x) 0) ≡ cell)
+      → PassesBy ws cell link (nextOf (getD ws (linksAt + x) 0))
 
 -- Between a sibling with the cell c and one with the cell r there is no blank, nor the cell wanted.
 pub record Reach (cell c r : ℕ) : Type 0 where
@@ -59,12 +60,14 @@ pub record LeapsTo (ws : List ℕ) (cell link r : ℕ) : Type 0 where
 -- Passed by up to r; or up to a symbol above `last`, and r is none.
 pub data Sought (ws : List ℕ) (cell last link r : ℕ) : Type 0 where
   reached : PassesBy ws cell link r → Sought ws cell last link r
-  beyond : {x : ℕ} → PassesBy ws cell link x → ¬ (x ≡ 0) → last < cellOf (getD ws (linksAt + x) 0) → cellOf (getD ws (linksAt + x) 0) < 32768 → r ≡ 0 → Sought ws cell last link r
+  beyond : {x : ℕ} → PassesBy ws cell link x → ¬ (x ≡ 0) → last < cellOf (getD ws (linksAt + x) 0) → cellOf (getD ws (linksAt + x) 0) < 32768 → r ≡ 0
+      → Sought ws cell last link r
 
 -- From the link on, sibling by sibling, where nothing is to be skipped: at each that is passed the machine fails.
 pub data Skips (fq fr : Bool) (ws question : List ℕ) (place link : ℕ) : ℕ → Type 0 where
   stay : Skips fq fr ws question place link link
-  skip-on : {x : ℕ} → Skips fq fr ws question place link x → ¬ (x ≡ 0) → walkAfter fq fr question (getD ws (linksAt + x) 0) 0 place ≡ reading failed → Skips fq fr ws question place link (nextOf (getD ws (linksAt + x) 0))
+  skip-on : {x : ℕ} → Skips fq fr ws question place link x → ¬ (x ≡ 0) → walkAfter fq fr question (getD ws (linksAt + x) 0) 0 place ≡ reading failed
+      → Skips fq fr ws question place link (nextOf (getD ws (linksAt + x) 0))
 
 -- Where it is 65,536 the question's cell may be filled. Else each other symbol makes the machine fail, and where it is a symbol and the rule's blanks
 -- may not be filled, any other cell.

@@ -105,7 +105,8 @@ not-true true n = absurd (n refl)
 not-true false n = refl
 
 -- no proper beginning of a whole form is done
-pub not-before : (fq fr : Bool) (q : Row Blank) (f : List ℕ) → Terms 1 q → Terms 1 (map blankOf f) → (p u : List ℕ) → p ++ u ≡ f → ¬ (u ≡ []) → done (run fq fr (at 0 q) (map blankOf p)) ≡ false
+pub not-before : (fq fr : Bool) (q : Row Blank) (f : List ℕ) → Terms 1 q → Terms 1 (map blankOf f) → (p u : List ℕ) → p ++ u ≡ f → ¬ (u ≡ [])
+    → done (run fq fr (at 0 q) (map blankOf p)) ≡ false
 not-before fq fr q f wq wf p u e n = not-true _ (λ d.
     let w = accepted-whole fq fr q (map blankOf p) wq (all-proper p) (T-true _ d) in
     n (map-nil u (same-rest w wf (sym (map-append p u) ∙ ap (map blankOf) e ∙ sym (append-nil (map blankOf f))))))
@@ -138,7 +139,8 @@ module _ (fq fr : Bool) (q : Row Blank) (wq : Terms 1 q) (v : View) (small : (n 
       let u = Rattle.shape.specs.Tallies.of-listed (taken v) rulesLimit (y .1) .0 in
       let ef : form v (y .0) ≡ g .form = ap (λ (z : Leaf). z .form) (y .2) ∙ x .2 in
       ap (good fq fr) (read-row fq fr (at 0 q) (reverse r) (λ p w e n.
-      not-before fq fr q (form v (y .0)) wq (form-terms (y .0) u) p (w ++ g .rest) (sym (append-assoc p w (g .rest)) ∙ ap (λ (z : List ℕ). z ++ g .rest) e ∙ g .is ∙ sym ef)
+      not-before fq fr q (form v (y .0)) wq (form-terms (y .0) u) p (w ++ g .rest)
+      (sym (append-assoc p w (g .rest)) ∙ ap (λ (z : List ℕ). z ++ g .rest) e ∙ g .is ∙ sym ef)
       (λ z. n (nil-left w (g .rest) z))))
     where
       nil-left : (a c : List ℕ) → a ++ c ≡ [] → a ≡ []
@@ -158,10 +160,17 @@ module _ (fq fr : Bool) (q : Row Blank) (wq : Terms 1 q) (v : View) (small : (n 
           let e : n ≡ nodesLimit + (n - nodesLimit) = omega arith in
           let up : Up (v .tree) (suc (nodesLimit + (n - nodesLimit))) (g .0) = subst (λ (z : ℕ). Up (v .tree) (suc z) (g .0)) e (g .1) in
           let u : taken v (n - nodesLimit) ≡ true = Rattle.shape.specs.Basics.up-used up in
-          let same : reverse (g .0) ≡ form v (n - nodesLimit) ++ (number v (n - nodesLimit) ∷ []) = ap reverse (up-same up (leaf-row (n - nodesLimit) u)) ∙ reverse-reverse _ in
-          (n - nodesLimit, e, u, sym (leaf-good (n - nodesLimit) u) ∙ ap (λ (z : List ℕ). good fq fr (search.run (next fq fr) (good fq fr) (reading (at 0 q)) z)) (sym same) ∙ g .2)
+          let same : reverse (g .0) ≡ form v (n - nodesLimit)
+          ++ (number v (n - nodesLimit) ∷ []) = ap reverse (up-same up (leaf-row (n - nodesLimit) u)) ∙ reverse-reverse _ in (
+            n - nodesLimit,
+            e,
+            u,
+            sym (leaf-good (n - nodesLimit) u)
+                ∙ ap (λ (z : List ℕ). good fq fr (search.run (next fq fr) (good fq fr) (reading (at 0 q)) z)) (sym same) ∙ g .2,
+          )
 
   pub rule-found : (j : ℕ) → taken v j ≡ true → answers-at j ≡ true → List·Memᴰ (nodesLimit + j) found
   rule-found j u e =
-      good-found (next fq fr) (good fq fr) (v .tree) (passes-tree (right .tree)) b (reading (at 0 q)) (nodesLimit + j) (reverse (form v j ++ (number v j ∷ []))) (leaf-row j u)
+      good-found (next fq fr) (good fq fr) (v .tree) (passes-tree (right .tree)) b (reading (at 0 q)) (nodesLimit + j)
+      (reverse (form v j ++ (number v j ∷ []))) (leaf-row j u)
       (ap (λ (z : List ℕ). good fq fr (search.run (next fq fr) (good fq fr) (reading (at 0 q)) z)) (reverse-reverse (form v j ++ (number v j ∷ []))) ∙ leaf-good j u ∙ e)

@@ -90,7 +90,8 @@ tail-left : (w r : ℕ) → r < 4 → w < 2 ^ 64 → ((t : ℕ) → r + t < 4 �
 tail-left w zero h b f =
     let q = low-4 w b (both-low w 4294967296 (low-2 w (omega (arith, f 0 (omega arith))) (f 1 (omega arith))) (f 2 (omega arith))) (f 3 (omega arith)) in
     ap (λ (x : ℕ). (x * 2 ^ (0 * 16)) % 2 ^ 64) q
-tail-left w (suc zero) h b f = unshift w 65536 281474976710656 (both-low w 4294967296 (low-2 w (omega (arith, f 0 (omega arith))) (f 1 (omega arith))) (f 2 (omega arith)))
+tail-left w (suc zero) h b f = unshift w 65536 281474976710656
+    (both-low w 4294967296 (low-2 w (omega (arith, f 0 (omega arith))) (f 1 (omega arith))) (f 2 (omega arith)))
 tail-left w (suc (suc zero)) h b f = unshift w 4294967296 4294967296 (low-2 w (omega (arith, f 0 (omega arith))) (f 1 (omega arith)))
 tail-left w (suc (suc (suc zero))) h b f = unshift w 281474976710656 65536 (omega (arith, f 0 (omega arith)))
 tail-left w (suc (suc (suc (suc r)))) h b f = absurd (omega arith)
@@ -98,14 +99,16 @@ tail-left w (suc (suc (suc (suc r)))) h b f = absurd (omega arith)
 pub word-clear : (ws : List ℕ) (q r : ℕ) → (getD ws q 0 * 2 ^ (r * 16)) % 2 ^ 64 ≡ 0 → (k : ℕ) → q * 4 + r ≤ k → k < q * 4 + 4 → getD (fields ws) k 0 ≡ 0
 word-clear ws q r e k a b = field-at ws q k (omega arith) b ∙ tail-clear (getD ws q 0) r (3 - k % 4) (omega arith) e
 
-pub word-left : (ws : List ℕ) (q r : ℕ) → r < 4 → getD ws q 0 < 2 ^ 64 → ((k : ℕ) → q * 4 + r ≤ k → k < q * 4 + 4 → getD (fields ws) k 0 ≡ 0) → (getD ws q 0 * 2 ^ (r * 16)) % 2 ^ 64 ≡ 0
+pub word-left : (ws : List ℕ) (q r : ℕ) → r < 4 → getD ws q 0 < 2 ^ 64 → ((k : ℕ) → q * 4 + r ≤ k → k < q * 4 + 4 → getD (fields ws) k 0 ≡ 0)
+    → (getD ws q 0 * 2 ^ (r * 16)) % 2 ^ 64 ≡ 0
 word-left ws q r h b f = tail-left (getD ws q 0) r h b (λ t l. one t l)
   where
     one : (t : ℕ) → r + t < 4 → getD ws q 0 / 2 ^ (t * 16) % 2 ^ 16 ≡ 0
     one t l =
         let k : ℕ = q * 4 + (3 - t) in
         let e : 3 - (q * 4 + (3 - t)) % 4 ≡ t = omega arith in
-        ap (λ (x : ℕ). getD ws q 0 / 2 ^ (x * 16) % 2 ^ 16) (sym e) ∙ sym (field-at ws q (q * 4 + (3 - t)) (omega arith) (omega arith)) ∙ f (q * 4 + (3 - t)) (omega arith) (omega arith)
+        ap (λ (x : ℕ). getD ws q 0 / 2 ^ (x * 16) % 2 ^ 16) (sym e) ∙ sym (field-at ws q (q * 4 + (3 - t)) (omega arith) (omega arith))
+        ∙ f (q * 4 + (3 - t)) (omega arith) (omega arith)
 
 -- the search has come to the word i
 pub record ClearTo (ws : List ℕ) (from i : ℕ) : Type 0 where

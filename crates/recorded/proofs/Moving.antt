@@ -25,7 +25,8 @@ left-zero a b e = omega (arith, or-add-and a b, and-le-r a b)
 right-zero : (a b : ℕ) → bitOr a b ≡ 0 → b ≡ 0
 right-zero a b e = omega (arith, or-add-and a b, and-le-l a b)
 
-pub all-six : (ws : List ℕ) → length ws ≡ termWords → bitOr (bitOr (bitOr (bitOr (bitOr (getD ws 2 0) (getD ws 3 0)) (getD ws 4 0)) (getD ws 5 0)) (getD ws 6 0)) (getD ws 7 0) ≡ 0
+pub all-six : (ws : List ℕ) → length ws ≡ termWords
+    → bitOr (bitOr (bitOr (bitOr (bitOr (getD ws 2 0) (getD ws 3 0)) (getD ws 4 0)) (getD ws 5 0)) (getD ws 6 0)) (getD ws 7 0) ≡ 0
     → (j : ℕ) → 2 ≤ j → getD ws j 0 ≡ 0
 all-six ws h e = one
   where
@@ -49,7 +50,8 @@ all-six ws h e = one
     one (suc (suc (suc (suc zero)))) l = right-zero (bitOr (getD ws 2 0) (getD ws 3 0)) (getD ws 4 0) e4
     one (suc (suc (suc (suc (suc zero))))) l = right-zero (bitOr (bitOr (getD ws 2 0) (getD ws 3 0)) (getD ws 4 0)) (getD ws 5 0) e5
     one (suc (suc (suc (suc (suc (suc zero)))))) l = right-zero (bitOr (bitOr (bitOr (getD ws 2 0) (getD ws 3 0)) (getD ws 4 0)) (getD ws 5 0)) (getD ws 6 0) e6
-    one (suc (suc (suc (suc (suc (suc (suc zero))))))) l = right-zero (bitOr (bitOr (bitOr (bitOr (getD ws 2 0) (getD ws 3 0)) (getD ws 4 0)) (getD ws 5 0)) (getD ws 6 0)) (getD ws 7 0) e
+    one (suc (suc (suc (suc (suc (suc (suc zero))))))) l = right-zero
+        (bitOr (bitOr (bitOr (bitOr (getD ws 2 0) (getD ws 3 0)) (getD ws 4 0)) (getD ws 5 0)) (getD ws 6 0)) (getD ws 7 0) e
     one (suc (suc (suc (suc (suc (suc (suc (suc k)))))))) l = List·getD-eq-default ws 0 (omega arith)
 
 -- ---- a word that is moved up by s fields: the field with t fields below it
@@ -93,7 +95,8 @@ one-up u v (suc (suc zero)) h l = omega arith
 one-up u v (suc (suc (suc t))) h l = absurd (omega arith)
 
 -- the cell with t cells behind it is the last one of a shorter beginning
-behind : {way ks row : List ℕ} → Kept way ks row → Low row → length row ≤ 32 → (d t : ℕ) → d ≤ length row → t < 4 → t < d → getD way d 0 / 2 ^ (t * 16) % 2 ^ 16 ≡ getD way (d - t) 0 % 65536
+behind : {way ks row : List ℕ} → Kept way ks row → Low row → length row ≤ 32 → (d t : ℕ) → d ≤ length row → t < 4 → t < d
+    → getD way d 0 / 2 ^ (t * 16) % 2 ^ 16 ≡ getD way (d - t) 0 % 65536
 behind (none a b) h s d t l m n = absurd (omega arith)
 behind {way} {ks} (more {c} {r} a b w k) h s d t l m n = go (behind k (λ e i. h e (List·Memᴰ·tail i)) (omega arith)) (ℕ-discrete d (suc (length r)))
   where
@@ -111,7 +114,8 @@ behind {way} {ks} (more {c} {r} a b w k) h s d t l m n = go (behind k (λ e i. h
     at ih (suc t) m n =
         let i : length r - t ≡ suc (length r) - suc t = omega arith in
         ap (λ (z : ℕ). z / 2 ^ (suc t * 16) % 2 ^ 16) a ∙ one-up (wordOf r) (numbered c (blanks r)) t low m
-        ∙ ap (λ (z : ℕ). z / 2 ^ (t * 16) % 2 ^ 16) (sym (kept-word k)) ∙ ih (length r) t (omega arith) (omega arith) (omega arith) ∙ ap (λ (z : ℕ). getD way z 0 % 65536) i
+        ∙ ap (λ (z : ℕ). z / 2 ^ (t * 16) % 2 ^ 16) (sym (kept-word k)) ∙ ih (length r) t (omega arith) (omega arith) (omega arith)
+        ∙ ap (λ (z : ℕ). getD way z 0 % 65536) i
 
     go : Shorter → Dec (d ≡ suc (length r)) → getD way d 0 / 2 ^ (t * 16) % 2 ^ 16 ≡ getD way (d - t) 0 % 65536
     go ih (yes q) = ap (λ (z : ℕ). getD way z 0 / 2 ^ (t * 16) % 2 ^ 16) q ∙ at ih t m (omega arith) ∙ ap (λ (z : ℕ). getD way (z - t) 0 % 65536) (sym q)
@@ -128,7 +132,8 @@ lastOf way depth = (getD way depth 0 * 2 ^ ((8 - depth) % 4 * 16)) % 2 ^ 64
 
 empty-at : (ws : List ℕ) (k : ℕ) → getD ws (k / 4) 0 ≡ 0 → getD (fields ws) k 0 ≡ 0
 empty-at ws k e =
-    get-unpack 16 4 ws k (3 - k % 4) (omega arith) ∙ ap (λ (z : ℕ). z / 2 ^ ((3 - k % 4) * 16) % 2 ^ 16) e ∙ ap (λ (z : ℕ). z % 2 ^ 16) (zero-div (2 ^ ((3 - k % 4) * 16)))
+    get-unpack 16 4 ws k (3 - k % 4) (omega arith) ∙ ap (λ (z : ℕ). z / 2 ^ ((3 - k % 4) * 16) % 2 ^ 16) e
+    ∙ ap (λ (z : ℕ). z % 2 ^ 16) (zero-div (2 ^ ((3 - k % 4) * 16)))
 
 module _ (words way ks row : List ℕ) (depth : ℕ) (kept : Kept way ks row) (low : Low row) (deep : length row ≡ depth) (few : depth ≤ 8) where
   -- the word q has the last cells
@@ -142,10 +147,12 @@ module _ (words way ks row : List ℕ) (depth : ℕ) (kept : Kept way ks row) (l
 
   last-clean : (q k : ℕ) → getD words q 0 ≡ lastOf way depth → q * 4 < depth → depth ≤ k → k < q * 4 + 4 → getD (fields words) k 0 ≡ 0
   last-clean q k e a l b =
-      field-at words q k (omega arith) b ∙ ap (λ (z : ℕ). z / 2 ^ ((3 - k % 4) * 16) % 2 ^ 16) e ∙ emptied (getD way depth 0) ((8 - depth) % 4) (3 - k % 4) (omega arith) (omega arith)
+      field-at words q k (omega arith) b ∙ ap (λ (z : ℕ). z / 2 ^ ((3 - k % 4) * 16) % 2 ^ 16) e
+      ∙ emptied (getD way depth 0) ((8 - depth) % 4) (3 - k % 4) (omega arith) (omega arith)
 
   pub plain-short : ((j : ℕ) → 2 ≤ j → getD words j 0 ≡ 0) → depth ≤ 4 → getD words 1 0 ≡ 0 → getD words 0 0 ≡ lastOf way depth → Plain words way depth
-  plain-short rest l e1 e0 = record { short = omega arith; same = λ j h. last-same 0 j e0 (omega arith) h (omega arith); clean = λ k h. clean k h (decLt k 4) (ℕ-discrete depth 0) }
+  plain-short rest l e1 e0 = record
+      { short = omega arith; same = λ j h. last-same 0 j e0 (omega arith) h (omega arith); clean = λ k h. clean k h (decLt k 4) (ℕ-discrete depth 0) }
     where
       later : (j : ℕ) → 1 ≤ j → getD words j 0 ≡ 0
       later zero h = absurd (omega arith)
@@ -153,7 +160,8 @@ module _ (words way ks row : List ℕ) (depth : ℕ) (kept : Kept way ks row) (l
       later (suc (suc j)) h = rest (suc (suc j)) (omega arith)
 
       nothing : depth ≡ 0 → getD words 0 0 ≡ 0
-      nothing z = e0 ∙ ap (λ (d : ℕ). (getD way d 0 * 2 ^ ((8 - depth) % 4 * 16)) % 2 ^ 64) z ∙ ap (λ (x : ℕ). (x * 2 ^ ((8 - depth) % 4 * 16)) % 2 ^ 64) (kept-first kept)
+      nothing z = e0 ∙ ap (λ (d : ℕ). (getD way d 0 * 2 ^ ((8 - depth) % 4 * 16)) % 2 ^ 64) z
+          ∙ ap (λ (x : ℕ). (x * 2 ^ ((8 - depth) % 4 * 16)) % 2 ^ 64) (kept-first kept)
           ∙ ap (λ (x : ℕ). x % 2 ^ 64) (zero-mul (2 ^ ((8 - depth) % 4 * 16)))
 
       clean : (k : ℕ) → depth ≤ k → Dec (k < 4) → Dec (depth ≡ 0) → getD (fields words) k 0 ≡ 0
@@ -179,7 +187,11 @@ module _ (words way ks row : List ℕ) (depth : ℕ) (kept : Kept way ks row) (l
 
 module _ (words way : List ℕ) (depth : ℕ) where
   pub plainly : length words ≡ termWords → PlainOf words way depth → TermDecided words way depth true
-  plainly eight p = record { yes = λ q ks row kept low deep whole. plain-term words way ks row depth eight kept low deep whole (p ks row kept low deep); no = λ q. absurd (true≢false refl q) }
+  plainly eight p = record {
+    yes = λ q ks row kept low deep whole. plain-term words way ks row depth eight kept low deep whole
+        (p ks row kept low deep);
+    no = λ q. absurd (true≢false refl q);
+  }
 
   pub by-cells : (r : Bool) → Decides (TermOf words way depth) r → TermDecided words way depth r
   by-cells r d = record { yes = λ q ks row kept low deep whole. d .yes q; no = d .no }

@@ -22,14 +22,16 @@ use Rattle.recorded.specs.Promises.{TermOf, TermDecided, RuleAt, RuleDec
 abbrev pub SameTo : List ℕ → List ℕ → ℕ → Type 0
 SameTo cells way i = (j : ℕ) → j < i → blankNumber (getD cells j 0) ≡ blankNumber (getD way (j + 1) 0 % 65536)
 
-pub same-on : (cells way : List ℕ) (i a b : ℕ) → SameTo cells way i → a ≡ blankNumber (getD cells i 0) → b ≡ blankNumber (getD way (i + 1) 0 % 65536) → a ≡ b → SameTo cells way (i + 1)
+pub same-on : (cells way : List ℕ) (i a b : ℕ) → SameTo cells way i → a ≡ blankNumber (getD cells i 0) → b ≡ blankNumber (getD way (i + 1) 0 % 65536)
+    → a ≡ b → SameTo cells way (i + 1)
 same-on cells way i a b h ea eb e j l = go (ℕ-discrete j i)
   where
     go : Dec (j ≡ i) → blankNumber (getD cells j 0) ≡ blankNumber (getD way (j + 1) 0 % 65536)
     go (yes q) = ap (λ (k : ℕ). blankNumber (getD cells k 0)) q ∙ sym ea ∙ e ∙ eb ∙ ap (λ (k : ℕ). blankNumber (getD way (k + 1) 0 % 65536)) (sym q)
     go (no q) = h j (omega arith)
 
-pub same-not : (cells way : List ℕ) (depth i a b : ℕ) → i < depth → a ≡ blankNumber (getD cells i 0) → b ≡ blankNumber (getD way (i + 1) 0 % 65536) → ¬ (a ≡ b) → Decides (SameTo cells way depth) false
+pub same-not : (cells way : List ℕ) (depth i a b : ℕ) → i < depth → a ≡ blankNumber (getD cells i 0) → b ≡ blankNumber (getD way (i + 1) 0 % 65536)
+    → ¬ (a ≡ b) → Decides (SameTo cells way depth) false
 same-not cells way depth i a b l ea eb n = denied (λ h. n (ea ∙ h i l ∙ sym eb))
 
 pub same-all : (cells way : List ℕ) (depth i : ℕ) → depth ≤ i → SameTo cells way i → Decides (SameTo cells way depth) true
@@ -45,7 +47,8 @@ module _ (words way : List ℕ) (depth : ℕ) where
     pub not-whole : (b : Bool) → Decides (readTerm cells ≡ Whole depth) b → b ≡ false → Decides (TermOf words way depth) false
     not-whole b w e = denied (λ t. w .no e (ap readTerm ec ∙ t .whole))
 
-    pub is-term : (z : Zeros (fields words) depth) (b : Bool) → Decides (readTerm cells ≡ Whole depth) b → b ≡ true → (r : Bool) → Decides (SameTo cells way depth) r → Decides (TermOf words way depth) r
+    pub is-term : (z : Zeros (fields words) depth) (b : Bool) → Decides (readTerm cells ≡ Whole depth) b → b ≡ true → (r : Bool)
+        → Decides (SameTo cells way depth) r → Decides (TermOf words way depth) r
     is-term z b w e r d = record {
       yes = λ q. record { whole = ap readTerm (sym ec) ∙ w .yes e; clean = z; same = λ j l. ap (λ (x : List ℕ). blankNumber (getD x j 0)) (sym ec) ∙ d .yes q j l };
       no = λ q t. d .no q (λ j l. ap (λ (x : List ℕ). blankNumber (getD x j 0)) ec ∙ t .same j l);

@@ -37,7 +37,8 @@ takes-numbered c k h l = go (ltb c 32768) refl
         rw (le-ltb (c + k) 32768 (omega arith), lt-leb 36864 (c + k) (omega arith), le-ltb 15 ((c + k) - 32768) (omega arith))
         (rw (le-ltb k ((c + k) - 32768) (omega arith)) (rw (le-ltb ((c + k) - 32768) k (omega arith)) (ap₂ Wants (omega arith) (omega arith))))
 
-read-one : (left w known place c a k : ℕ) (rest : List ℕ) → takes known c ≡ Wants a k → readFrom (suc left) (suc w) known place (c ∷ rest) ≡ readFrom left (a + w) k (suc place) rest
+read-one : (left w known place c a k : ℕ) (rest : List ℕ) → takes known c ≡ Wants a k
+    → readFrom (suc left) (suc w) known place (c ∷ rest) ≡ readFrom left (a + w) k (suc place) rest
 unfolding readFrom
 read-one left w known place c a k rest e = ap (λ (t : Taken). goOn t place (λ arity met. readFrom left (arity + w) met (suc place) rest)) e
 
@@ -55,9 +56,11 @@ reads-row (c ∷ r) rest h o l =
     taken = let q = blanks-low r (λ d i. h d (List·Memᴰ·tail i)) in takes-numbered c (blanks r) (h c (List·Memᴰ·head refl)) (omega arith)
 
     one : (left w left′ w′ : ℕ) → left ≡ suc left′ → w ≡ suc w′ → 32 - suc (length r) ≡ left′
-        → readFrom left w (blanks r) (length r) (numbered c (blanks r) ∷ rest) ≡ readFrom (32 - suc (length r)) ((c / 4096 % 8 + w) - 1) (c / 32768 + blanks r) (suc (length r)) rest
+        → readFrom left w (blanks r) (length r) (numbered c (blanks r) ∷ rest)
+        ≡ readFrom (32 - suc (length r)) ((c / 4096 % 8 + w) - 1) (c / 32768 + blanks r) (suc (length r)) rest
     one left w left′ w′ e f g =
-        ap₂ (λ (a b : ℕ). readFrom a b (blanks r) (length r) (numbered c (blanks r) ∷ rest)) e f ∙ read-one left′ w′ (blanks r) (length r) (numbered c (blanks r)) (c / 4096 % 8) (c / 32768 + blanks r) rest taken
+        ap₂ (λ (a b : ℕ). readFrom a b (blanks r) (length r) (numbered c (blanks r) ∷ rest)) e f
+        ∙ read-one left′ w′ (blanks r) (length r) (numbered c (blanks r)) (c / 4096 % 8) (c / 32768 + blanks r) rest taken
         ∙ ap₂ (λ (a b : ℕ). readFrom a b (c / 32768 + blanks r) (suc (length r)) rest) (sym g) (omega arith)
 
 pub general-whole : (r rest : List ℕ) → Low r → Opened r → length r ≤ 15 → wants r ≡ 0 → readTerm (reverse (general r) ++ rest) ≡ Whole (length r)

@@ -46,12 +46,14 @@ numbered-low c k h l = go (ltb c 32768)
 pub last-part : (u v : ℕ) → v < 65536 → (u * 65536 + v) % 65536 ≡ v
 last-part u v h = omega arith
 
-pub kept-cell : {way ks row : List ℕ} → Kept way ks row → Low row → length row ≤ 32 → (j : ℕ) → j < length row → blankNumber (getD way (j + 1) 0 % 65536) ≡ getD (reverse row) j 0
+pub kept-cell : {way ks row : List ℕ} → Kept way ks row → Low row → length row ≤ 32 → (j : ℕ) → j < length row
+    → blankNumber (getD way (j + 1) 0 % 65536) ≡ getD (reverse row) j 0
 kept-cell (none a b) h s j l = absurd (omega arith)
 kept-cell {way} {ks} (more {c} {r} a b w k) h s j l = go (λ q. kept-cell k (λ d i. h d (List·Memᴰ·tail i)) (omega arith) j q) (ℕ-discrete j (length r))
   where
     at : getD (reverse (c ∷ r)) (length r) 0 ≡ c
-    at = ap (λ (z : List ℕ). getD z (length r) 0) (reverse-cons c r) ∙ ap (λ (i : ℕ). getD (reverse r ++ (c ∷ [])) i 0) (let q = length-reverse r in omega arith) ∙ getD-append-add (reverse r) (c ∷ []) 0 0
+    at = ap (λ (z : List ℕ). getD z (length r) 0) (reverse-cons c r)
+        ∙ ap (λ (i : ℕ). getD (reverse r ++ (c ∷ [])) i 0) (let q = length-reverse r in omega arith) ∙ getD-append-add (reverse r) (c ∷ []) 0 0
 
     before : j < length r → getD (reverse (c ∷ r)) j 0 ≡ getD (reverse r) j 0
     before q = ap (λ (z : List ℕ). getD z j 0) (reverse-cons c r) ∙ List·getD-append (reverse r) (c ∷ []) 0 j (omega (arith, length-reverse r))
@@ -59,10 +61,12 @@ kept-cell {way} {ks} (more {c} {r} a b w k) h s j l = go (λ q. kept-cell k (λ 
     low : c ≤ 32768
     low = h c (List·Memᴰ·head refl)
 
-    go : (j < length r → blankNumber (getD way (j + 1) 0 % 65536) ≡ getD (reverse r) j 0) → Dec (j ≡ length r) → blankNumber (getD way (j + 1) 0 % 65536) ≡ getD (reverse (c ∷ r)) j 0
+    go : (j < length r → blankNumber (getD way (j + 1) 0 % 65536) ≡ getD (reverse r) j 0) → Dec (j ≡ length r)
+        → blankNumber (getD way (j + 1) 0 % 65536) ≡ getD (reverse (c ∷ r)) j 0
     go ih (yes q) =
         let i : j + 1 ≡ suc (length r) = omega arith in
         let few = blanks-low r (λ d i. h d (List·Memᴰ·tail i)) in
         ap (λ (z : ℕ). blankNumber (getD way z 0 % 65536)) i ∙ ap (λ (z : ℕ). blankNumber (z % 65536)) a
-        ∙ ap blankNumber (last-part (wordOf r % 281474976710656) (numbered c (blanks r)) (numbered-low c (blanks r) low (omega arith))) ∙ unnumbered c (blanks r) low ∙ sym at ∙ ap (λ (z : ℕ). getD (reverse (c ∷ r)) z 0) (sym q)
+        ∙ ap blankNumber (last-part (wordOf r % 281474976710656) (numbered c (blanks r)) (numbered-low c (blanks r) low (omega arith)))
+        ∙ unnumbered c (blanks r) low ∙ sym at ∙ ap (λ (z : ℕ). getD (reverse (c ∷ r)) z 0) (sym q)
     go ih (no q) = ih (omega arith) ∙ sym (before (omega arith))

@@ -36,7 +36,8 @@ came {book} {after} {cells} {output} {r} {stop} {used} {n} e runs =
     record {
       stop-is = ran .stop-is ∙ ap (λ (o : Outcome). o .stop) same;
       used-is = ran .used-is ∙ ap (λ (o : Outcome). o .used) same;
-      records-are = ap (take n) (ran .output) ∙ take-at (written (run (rulesIn book) cells (length out) .records)) (drop n out) n (sym (ran .written-is)) ∙ ap (λ (o : Outcome). written (o .records)) same;
+      records-are = ap (take n) (ran .output)
+          ∙ take-at (written (run (rulesIn book) cells (length out) .records)) (drop n out) n (sym (ran .written-is)) ∙ ap (λ (o : Outcome). written (o .records)) same;
       within = omega (arith, ran .written-is, ap length (ran .output) ∙ length-append (written (run (rulesIn book) cells (length out) .records)) (drop n out));
     }
 

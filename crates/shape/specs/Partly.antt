@@ -72,7 +72,12 @@ ended-child {m} {ends} {n} {k} {r} p e = go (p .covered k (up-used below))
 
     go : Covered m ends k ⊎ On m k (suc n) → Passes m ends
     go (inl q) =
-        ended-on p (record { end = q .end; among = q .among; on = on-trans (above (subst (λ (z : ℕ). On m n z) (sym (p .tree .goes (child (suc n)) (up-used (p .at)) e .under)) here)) (q .on) })
+        ended-on p (record {
+          end = q .end;
+          among = q .among;
+          on = on-trans
+              (above (subst (λ (z : ℕ). On m n z) (sym (p .tree .goes (child (suc n)) (up-used (p .at)) e .under)) here)) (q .on);
+        })
     go (inr o) = absurd (let q = on-short o (p .at) below in omega arith)
 
 -- at the last node of a new end

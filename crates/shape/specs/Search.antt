@@ -80,7 +80,8 @@ module _ {S : Type 0} (step : ℕ → S → S) (good : S → Bool) where
   to-accepted : (s : S) (l : List (ℕ × List ℕ)) (n : ℕ) (r : List ℕ) → List·Memᴰ (n, r) l → good (after-row s r) ≡ true → List·Memᴰ n (accepted s l)
   unfolding accepted
   to-accepted s (x ∷ xs) n r (List·Memᴰ·head e) h =
-      Memᴰ·append-left (accepted s xs) (Memᴰ·cast (ap (λ (z : ℕ × List ℕ). z .0) e) (keeps (good (after-row s (x .1))) (x .0) (ap (λ (z : ℕ × List ℕ). good (after-row s (z .1))) (sym e) ∙ h)))
+      Memᴰ·append-left (accepted s xs)
+      (Memᴰ·cast (ap (λ (z : ℕ × List ℕ). z .0) e) (keeps (good (after-row s (x .1))) (x .0) (ap (λ (z : ℕ × List ℕ). good (after-row s (z .1))) (sym e) ∙ h)))
   to-accepted s (x ∷ xs) n r (List·Memᴰ·tail i) h = Memᴰ·append-right (keep (good (after-row s (x .1))) (x .0)) (to-accepted s xs n r i h)
 
   module _ (m : Shape) (t : Tree m) (b : Bounded m) (s : S) where

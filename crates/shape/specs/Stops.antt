@@ -46,7 +46,8 @@ module _ (m : Shape) where
     pub next : ¬ (m .next n ≡ 0)
 
   pub back : {l n d : ℕ} {r : List ℕ} {ks : List Stop} → Along l r (stop n d ∷ ks) → Back r n d ks
-  back (last {c = c} u e z a) = let b = back a in record { row = b .row; before = c ∷ b .before; is = ap (λ (x : List ℕ). c ∷ x) (b .is); deep = b .deep; along = b .along; next = b .next }
+  back (last {c = c} u e z a) = let b = back a in record
+      { row = b .row; before = c ∷ b .before; is = ap (λ (x : List ℕ). c ∷ x) (b .is); deep = b .deep; along = b .along; next = b .next }
   back (more {r = r} u e z d a) = record { row = r; before = []; is = ap (λ (x : ℕ). x ∷ r) e; deep = d; along = a; next = z }
 
 module _ (m : Shape) (Bare : Hook → Type 0) (Told : ℕ → List ℕ → Type 0) where
@@ -110,7 +111,8 @@ module _ (m : Shape) (t : Tree m) (most : ℕ) (short : (n : ℕ) (r : List ℕ)
       go (inr q) = let a = up-child t (suc n) x (q .1) in absurd (omega (arith, short (q .0) (m .cell (q .0) ∷ r) a))
   below (suc f) n r u x h = go (λ k a b. below f k (m .cell k ∷ r) a b (omega arith)) (ends n u)
     where
-      go : ((k : ℕ) → Used m k → Up m (suc k) (m .cell k ∷ r) → (j : ℕ) × End j × On m k (suc j)) → End n ⊎ ((k : ℕ) × (m .first (suc n) ≡ suc k)) → (k : ℕ) × End k × On m n (suc k)
+      go : ((k : ℕ) → Used m k → Up m (suc k) (m .cell k ∷ r) → (j : ℕ) × End j × On m k (suc j)) → End n ⊎ ((k : ℕ) × (m .first (suc n) ≡ suc k))
+          → (k : ℕ) × End k × On m n (suc k)
       go ih (inl e) = (n, e, here)
       go ih (inr q) =
           let g = t .goes (child (suc n)) u (q .1) in

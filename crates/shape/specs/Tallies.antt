@@ -158,7 +158,8 @@ map-tally map = sum-tally (bits map) (bit-low map) ∙ ap (tally (marked map)) (
 
 -- a map of zeros has no mark
 pub no-mark : (n k : ℕ) → marked (replicate n 0) k ≡ false
-no-mark n k = ap (λ (x : ℕ). eqb x 1) (get-bit (replicate n 0) k ∙ ap (λ (w : ℕ). w / 2 ^ (63 - k % 64) % 2) (zero-word n (k / 64)) ∙ ap (λ (x : ℕ). x % 2) (zero-div (2 ^ (63 - k % 64))))
+no-mark n k = ap (λ (x : ℕ). eqb x 1)
+    (get-bit (replicate n 0) k ∙ ap (λ (w : ℕ). w / 2 ^ (63 - k % 64) % 2) (zero-word n (k / 64)) ∙ ap (λ (x : ℕ). x % 2) (zero-div (2 ^ (63 - k % 64))))
   where
     zero-word : (n i : ℕ) → _≡_ {A = ℕ} (getD (replicate n 0) i 0) 0
     zero-word zero i = refl

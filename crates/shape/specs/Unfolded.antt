@@ -71,7 +71,8 @@ module _ (m : Shape) (t : Tree m) (b : Bounded m) where
     where
       go : {r : List ℕ} → Up m (suc n) r → trie m (suc n) ≡ node n (trie m (m .first (suc n))) (trie m (m .next n))
       go (down {r = p} v e x) =
-          sym (enough (fueled FUEL (suc n) p (λ k q. let d : n ≡ k = omega arith in subst (λ (z : ℕ). Used m z × Up m (m .parent z) p) d (v, x)) (λ k q. omega (arith, fuel-big))))
+          sym (enough (fueled FUEL (suc n) p (λ k q. let d : n ≡ k = omega arith in subst (λ (z : ℕ). Used m z × Up m (m .parent z) p) d (v, x))
+          (λ k q. omega (arith, fuel-big))))
           ∙ one-more m FUEL n
 
   -- a list of one point a level is enough for a search
@@ -180,7 +181,8 @@ module _ (m : Shape) (t : Tree m) where
     at-next k n u pk e p up x i =
         let j : List·Memᴰ x (rows m p (trie m (m .next k))) = subst (λ (l : ℕ). List·Memᴰ x (rows m p (trie m l))) (sym e) i in
         pk p (subst (λ (z : ℕ). Up m z p) (t .goes (after k) u e .under) up) x
-        (subst (λ (l : List (ℕ × List ℕ)). List·Memᴰ x l) (sym (opened k u p)) (List·Memᴰ·tail (Memᴰ·append-right (rows m (m .cell k ∷ p) (trie m (m .first (suc k)))) j)))
+        (subst (λ (l : List (ℕ × List ℕ)). List·Memᴰ x l) (sym (opened k u p))
+        (List·Memᴰ·tail (Memᴰ·append-right (rows m (m .cell k ∷ p) (trie m (m .first (suc k)))) j)))
 
     complete : (n : ℕ) (r : List ℕ) → Up m (suc n) r → List·Memᴰ (n, r) (rows m [] (trie m (m .first 0)))
     unfolding Part all-rows

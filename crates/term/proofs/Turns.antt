@@ -74,7 +74,8 @@ module _ (cells : List ℕ) (wanted known place at : ℕ) (room : place < 32) (w
   module _ (there : at < length cells) where
     -- one cell is read
     opened : (left w : ℕ) → 32 - place ≡ suc left → wanted ≡ suc w
-        → readFrom (32 - place) wanted known place (drop at cells) ≡ goOn (takes known (getD cells at 0)) place (λ a k. readFrom left (a + w) k (suc place) (drop (suc at) cells))
+        → readFrom (32 - place) wanted known place (drop at cells)
+        ≡ goOn (takes known (getD cells at 0)) place (λ a k. readFrom left (a + w) k (suc place) (drop (suc at) cells))
     unfolding readFrom
     opened left w e f = rw (e, f, drop-cons cells at 0 there)
 

@@ -33,7 +33,8 @@ module _ {A : Type 0} where
       let i = h x (List·Memᴰ·head refl) in
       omega (arith, less-length i, no-more xs (less i) (d .1) (λ z j. less-keeps i (h z (List·Memᴰ·tail j)) (λ e. d .0 (Memᴰ·cast (sym e) j))))
 
-  pub as-many : (xs ys : List A) → Distinct xs → Distinct ys → ((x : A) → List·Memᴰ x xs → List·Memᴰ x ys) → ((x : A) → List·Memᴰ x ys → List·Memᴰ x xs) → length xs ≡ length ys
+  pub as-many : (xs ys : List A) → Distinct xs → Distinct ys → ((x : A) → List·Memᴰ x xs → List·Memᴰ x ys)
+      → ((x : A) → List·Memᴰ x ys → List·Memᴰ x xs) → length xs ≡ length ys
   as-many xs ys d e f g = le-antisymm (no-more xs ys d f) (no-more ys xs e g)
 
   pub distinct-append : (xs ys : List A) → Distinct xs → Distinct ys → ((x : A) → List·Memᴰ x xs → List·Memᴰ x ys → ⊥) → Distinct (xs ++ ys)

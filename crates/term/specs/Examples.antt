@@ -126,8 +126,11 @@ passes-says (neither one mode other) h =
     let l = halves (isTerm other) no (k .1) in
     let m = halves (not (answers mode one other)) (not (answers mode other one)) (l .1) in
     let p = is-term one (k .0) in
-    let q = is-term other (l .0) in
-    ((λ n. T-not (answers mode one other) (m .0) (decides mode (blankForm one) (blankForm other) p q .1 n)), (λ n. T-not (answers mode other one) (m .1) (decides mode (blankForm other) (blankForm one) q p .1 n)))
+    let q = is-term other (l .0) in (
+      (λ n. T-not (answers mode one other) (m .0) (decides mode (blankForm one) (blankForm other) p q .1 n)),
+      (λ n. T-not (answers mode other one)
+          (m .1) (decides mode (blankForm other) (blankForm one) q p .1 n)),
+    )
 passes-says (counts terms n) h = eqb→eq (nodeCount terms) n h
 passes-says (reads cells refusal n) h =
     let r = readTerm cells in

@@ -188,7 +188,8 @@ unify (suc f) n (symb c ∷ q) (symb d ∷ r) u l wq wr x y =
     let e : symb c ∷ i .0 ≡ symb d ∷ j .0 = sym (i .1) ∙ j .1 in
     let ec : c ≡ d = symb-eq (head-eq-of-cons-eq e) in
     let k : d / 4096 + b .count ≡ c / 4096 + a .count = counts c d (a .count) (b .count) n ec (a .is) (b .is) in
-    rw ec (both (unify f (c / 4096 + a .count) q r (i .0) (omega arith) (a .forms) (recount k (b .forms)) (i .2) (subst (λ (s : Row Blank). Fill r s) (sym (tail-eq-of-cons-eq e)) (j .2))))
+    rw ec (both (unify f (c / 4096 + a .count) q r (i .0) (omega arith) (a .forms) (recount k (b .forms)) (i .2)
+    (subst (λ (s : Row Blank). Fill r s) (sym (tail-eq-of-cons-eq e)) (j .2))))
 
 -- For all four questions and all terms: the machine accepts exactly when the rule answers.
 pub decides : (m : Mode) (q r : Row Blank) → Terms 1 q → Terms 1 r → T (accepts m q r) ↔ Answers m q r

@@ -68,7 +68,8 @@ full-none ws = record { within = omega arith; used = λ y h. absurd (omega arith
 pub full-skipped : (ws : List ℕ) (k : ℕ) → Full ws k → Skipped 0 (bits (take nodeMapWords ws)) 0 (k * 64)
 full-skipped ws k f y a h e = true≢false (node-bit ws y (let w = f .within in omega arith) ∙ f .used y h) (ap (λ (x : ℕ). eqb x 1) e)
 
-pub full-on : (ws ws′ : List ℕ) → length ws ≡ treeWords → (n : ℕ) → First 0 (bits (take nodeMapWords ws)) 0 n → n < nodesLimit → {s : Hook} {c : ℕ} → Links (shape ws) (shape ws′) s c n
+pub full-on : (ws ws′ : List ℕ) → length ws ≡ treeWords → (n : ℕ) → First 0 (bits (take nodeMapWords ws)) 0 n → n < nodesLimit → {s : Hook} {c : ℕ}
+    → Links (shape ws) (shape ws′) s c n
     → Full ws′ (n / 64)
 full-on ws ws′ size n f l k = record {
   within = omega arith;
@@ -179,7 +180,8 @@ module _ (ws form : List ℕ) (s : Sound ws) (l i : ℕ) (d : Descended (shape w
   cell : getD (drop i form) 0 0 ≡ getD form i 0
   cell = getD-drop i form 0 0 ∙ ap (λ (k : ℕ). getD form k 0) (add-zero i)
 
-  pub plant-growing : tally (shape ws .used) nodesLimit + (length form - i) ≤ nodesLimit → (b : ℕ) → Next (shape ws) form l i b → Growing ws l b (take (length form - i) (drop i form)) 0
+  pub plant-growing : tally (shape ws .used) nodesLimit + (length form - i) ≤ nodesLimit → (b : ℕ) → Next (shape ws) form l i b
+      → Growing ws l b (take (length form - i) (drop i form)) 0
   plant-growing h b f = subst (λ (z : List ℕ). Growing ws l b z 0) (sym rest) (record {
     size = s .size;
     tree = s .tree;

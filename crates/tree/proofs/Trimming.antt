@@ -93,7 +93,8 @@ module _ (ws₀ ws : List ℕ) (l₀ : ℕ) where
         live′ : Live (shape ws′) (shape ws .parent n)
         live′ = still (shape ws .parent n) (parent-live (shape ws) (t .tree) n (t .live)) (λ d. childless (shape ws) (t .tree) (suc n) (k .leaf) n (t .live) d)
 
-    pub trim-less : (l : ℕ) → ¬ (l ≡ 0) → Trimming ws₀ ws l₀ l → Unlinked (shape ws) (shape ws′) (l - 1) → tally (shape ws′ .used) lastLink < tally (shape ws .used) lastLink
+    pub trim-less : (l : ℕ) → ¬ (l ≡ 0) → Trimming ws₀ ws l₀ l → Unlinked (shape ws) (shape ws′) (l - 1)
+        → tally (shape ws′ .used) lastLink < tally (shape ws .used) lastLink
     trim-less zero h t u = absurd (h refl)
     trim-less (suc n) h t u =
         let k = at-node n u in

@@ -62,7 +62,8 @@ no-rule {m} {xs} {l} f k p free other n u e c = by (p .covered n u)
     at x i [] q = other x i (sym (reverse-reverse (x .form)) ∙ ap reverse (sym (tail-eq-of-cons-eq q)) ∙ reverse-reverse f) (sym (head-eq-of-cons-eq q))
     at x i (d ∷ b) q =
         let whole : f ++ (k ∷ reverse b) ≡ x .form =
-        sym (append-assoc f (k ∷ []) (reverse b)) ∙ ap (λ (z : List ℕ). z ++ reverse b) (ap (λ (z : List ℕ). z ++ (k ∷ [])) (sym (reverse-reverse f)) ∙ sym (reverse-cons k (reverse f)))
+        sym (append-assoc f (k ∷ []) (reverse b))
+        ∙ ap (λ (z : List ℕ). z ++ reverse b) (ap (λ (z : List ℕ). z ++ (k ∷ [])) (sym (reverse-reverse f)) ∙ sym (reverse-cons k (reverse f)))
         ∙ sym (reverse-append b (k ∷ reverse f)) ∙ ap reverse (tail-eq-of-cons-eq q) ∙ reverse-reverse (x .form) in
         let z = free x i (k ∷ reverse b) whole in
         absurd (omega (arith, ap length z))

@@ -92,7 +92,8 @@ module _ {M : Type 1} {𝓤 : URA M} {H : Heap 𝓤} {A : Atoms 𝓤} {K : Type 
   frees-all t vs {E} {Γ} {Γ′} {g} e = step (λ s. subst (λ (Δ : List (Item 𝓤)). Seq K W Δ (frees E g)) (sym e) (all-freed t E vs s))
 
   -- what a callee's promise says of its answer is heard: the answer is owned, and the tokens are back
-  pub answered : {Γ : List (Item 𝓤)} {G : Goal 𝓤 H} {P : SProp 𝓤} → K → Soaks G → (w : Val) (R : RattleType) (tokens : Item 𝓤) (φ : R .Denot → Type 0) (E : R .Denot → SProp 𝓤)
+  pub answered : {Γ : List (Item 𝓤)} {G : Goal 𝓤 H} {P : SProp 𝓤} → K → Soaks G
+      → (w : Val) (R : RattleType) (tokens : Item 𝓤) (φ : R .Denot → Type 0) (E : R .Denot → SProp 𝓤)
       → ent 𝓤 P (mean 𝓤 H A (later (some (λ (r : R .Denot). (tokens ⊛ ‵ (R .own r (w ∷ []))) ⊛ raw (E r))))) → ((r : R .Denot) → ent 𝓤 (E r) (fact 𝓤 (φ r)))
       → ((r : R .Denot) → φ r → Seq K W (‵ (R .own r (w ∷ [])) ∷ tokens ∷ Γ) G) → Seq K W (raw P ∷ Γ) G
   answered t z w R tokens φ E post says go =

@@ -30,7 +30,8 @@ pub some-put : {bytes a : List ℕ} (b : List ℕ) {text : List ℕ} {at : ℕ} 
 some-put {bytes} {a} b {text} {at} e r p =
     record { leads = ap (puts b) (p .put) ∙ sym (puts-append a b (page text at)) ∙ ap (λ (l : List ℕ). puts l (page text at)) (sym e) ∙ r .leads }
 
-pub none-left : {rest bytes text : List ℕ} {at : ℕ} {after : List ℕ} {place : ℕ} → rest ≡ [] → Rest rest after place (puts bytes (page text at)) → Puts bytes text at after place
+pub none-left : {rest bytes text : List ℕ} {at : ℕ} {after : List ℕ} {place : ℕ} → rest ≡ [] → Rest rest after place (puts bytes (page text at))
+    → Puts bytes text at after place
 unfolding puts
 none-left {after = after} {place = place} e r = record { put = ap (λ (l : List ℕ). puts l (page after place)) (sym e) ∙ r .leads }
 

@@ -31,7 +31,8 @@ module _ (s : tie.Start) where
   part : take (s .args .from + s .args .command .size - s .args .from) behind ≡ take (s .args .command .size) behind
   part = part-is (s .args .cells .now) (s .args .from) (s .args .command .size)
 
-  whole : (act : Act) → s .args .command .stop ≡ 0 → s .args .command .act ≡ act → aboutTerm act ≡ true → IsTerm (take (s .args .from + s .args .command .size - s .args .from) behind)
+  whole : (act : Act) → s .args .command .stop ≡ 0 → s .args .command .act ≡ act → aboutTerm act ≡ true
+      → IsTerm (take (s .args .from + s .args .command .size - s .args .from) behind)
   whole act z e a = subst IsTerm (sym part) (whole-behind behind (s .args .command .size) (s .pre .1 .1 .0 .whole z (ap aboutTerm e ∙ a)))
 
 returns : tie.Need-returns
@@ -48,16 +49,28 @@ part-add-end c = end-in (c .before .before .before .before .before .before .befo
 
 add-requires : tie.Need-add-requires
 add-requires c κs =
-    let s = c .before .before .before .before .before .before .before .before .before .before .before in
-    (s .pre .0, (s .pre .1 .1 .0 .number-low, whole s _ (c .before .before .before .before .before .before .if1 .left) (c .before .before .before .enum-told2 .given .1) refl))
+    let s = c .before .before .before .before .before .before .before .before .before .before .before in (
+      s .pre .0,
+      (
+        s .pre .1 .1 .0 .number-low,
+        whole s _ (c .before .before .before .before .before .before .if1 .left)
+            (c .before .before .before .enum-told2 .given .1) refl,
+      ),
+    )
 
 part-ask-end : tie.Need-part-ask-end
 part-ask-end c = end-in (c .before .before .before .before .before .before .before .before .before .before)
 
 ask-requires : tie.Need-ask-requires
 ask-requires c κs =
-    let s = c .before .before .before .before .before .before .before .before .before .before .before .before .before in
-    (s .pre .0, (whole s _ (c .before .before .before .before .before .before .before .before .if1 .left) (c .before .before .before .before .before .act .given .1) refl, s .pre .1 .1 .1))
+    let s = c .before .before .before .before .before .before .before .before .before .before .before .before .before in (
+      s .pre .0,
+      (
+        whole s _ (c .before .before .before .before .before .before .before .before .if1 .left)
+            (c .before .before .before .before .before .act .given .1) refl,
+        s .pre .1 .1 .1,
+      ),
+    )
 
 -- it goes on: what is done is what its act does
 module _ (e : tie.Else1) where
@@ -70,32 +83,39 @@ module _ (e : tie.Else1) where
   acted act term ws′ out′ n q r d = done (s .args .book .now) ws′ (s .args .out .now) out′ (behind s) n (s .args .command) act term (e .if1 .left) q r d
 
   -- a command that only tells something
-  tell : (out′ : List ℕ) (n : ℕ) (r : Record) → Writes r (s .args .out .now) out′ n → Does (tells r (rulesIn (s .args .book .now))) (s .args .book .now) (s .args .book .now) (s .args .out .now) out′ n
+  tell : (out′ : List ℕ) (n : ℕ) (r : Record) → Writes r (s .args .out .now) out′ n
+      → Does (tells r (rulesIn (s .args .book .now))) (s .args .book .now) (s .args .book .now) (s .args .out .now) out′ n
   tell out′ n r w = told (s .args .book .now) (s .args .out .now) out′ n r (s .pre .0) w
 
 -- an unknown kind
 returns-2 : tie.Need-returns-2
-returns-2 c = let e = c .before .before .before .before .before .before .before in acted e _ _ _ _ _ (c .before .before .before .before .enum-told .given .1) refl (tell e _ _ _ (c .before .before .put-bare2 .ensures))
+returns-2 c = let e = c .before .before .before .before .before .before .before in acted e _ _ _ _ _
+    (c .before .before .before .before .enum-told .given .1) refl (tell e _ _ _ (c .before .before .put-bare2 .ensures))
 
 -- add, remove
 returns-3 : tie.Need-returns-3
-returns-3 c = let e = c .before .before .before .before .before .before .before .before .before .before .before in acted e _ _ _ _ _ (c .before .before .before .before .before .before .before .before .enum-told2 .given .1) (part (s e)) (c .before .before .before .before .add .ensures)
+returns-3 c = let e = c .before .before .before .before .before .before .before .before .before .before .before in acted e _ _ _ _ _
+    (c .before .before .before .before .before .before .before .before .enum-told2 .given .1) (part (s e)) (c .before .before .before .before .add .ensures)
 
 returns-4 : tie.Need-returns-4
-returns-4 c = let e = c .before .before .before .before .before .before .before .before .before .before in acted e _ _ _ _ _ (c .before .before .before .before .before .before .before .enum-told3 .given .1) refl (c .before .before .before .before .remove .ensures)
+returns-4 c = let e = c .before .before .before .before .before .before .before .before .before .before in acted e _ _ _ _ _
+    (c .before .before .before .before .before .before .before .enum-told3 .given .1) refl (c .before .before .before .before .remove .ensures)
 
 -- a question, show, room
 returns-5 : tie.Need-returns-5
 returns-5 c =
     let e = c .before .before .before .before .before .before .before .before .before .before .before .before .before in
     let asked = c .before .before .before .before .ask in
-    acted e _ _ _ (asked .last .1 .1 .1 .1 .1 .0) _ (c .before .before .before .before .before .before .before .before .before .before .act .given .1) (part (s e)) (tell e _ _ _ (asked .ensures))
+    acted e _ _ _ (asked .last .1 .1 .1 .1 .1 .0) _ (c .before .before .before .before .before .before .before .before .before .before .act .given .1)
+    (part (s e)) (tell e _ _ _ (asked .ensures))
 
 returns-6 : tie.Need-returns-6
-returns-6 c = let e = c .before .before .before .before .before .before .before .before in acted e _ _ _ _ _ (c .before .before .before .before .before .enum-told4 .given .1) refl (tell e _ _ _ (c .before .before .show .ensures))
+returns-6 c = let e = c .before .before .before .before .before .before .before .before in acted e _ _ _ _ _
+    (c .before .before .before .before .before .enum-told4 .given .1) refl (tell e _ _ _ (c .before .before .show .ensures))
 
 returns-7 : tie.Need-returns-7
-returns-7 c = let e = c .before .before .before .before .before .before .before .before in acted e _ _ _ _ _ (c .before .before .before .before .before .enum-told5 .given .1) refl (tell e _ _ _ (c .before .before .room .ensures))
+returns-7 c = let e = c .before .before .before .before .before .before .before .before in acted e _ _ _ _ _
+    (c .before .before .before .before .before .enum-told5 .given .1) refl (tell e _ _ _ (c .before .before .room .ensures))
 
 pub do-command-spec : {M : Type 1} → statement M
 do-command-spec =

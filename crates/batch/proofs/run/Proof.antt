@@ -8,7 +8,8 @@ use Rattle.batch.proofs.run.Statement.{statement}
 use Rattle.batch.proofs.run.Tie as tie
 
 returns : tie.Need-returns
-returns c = turned-away (c .before .passes .ensures .no (not-true _ (c .if1 .taken))) (record { stop-is = refl; used-is = refl; written-is = refl; output = refl; book = refl })
+returns c = turned-away (c .before .passes .ensures .no (not-true _ (c .if1 .taken)))
+    (record { stop-is = refl; used-is = refl; written-is = refl; output = refl; book = refl })
 
 passed : (e : tie.Else1) → Passing (e .before .before .before .before .before .before .args .book .now)
 passed e = e .before .passes .ensures .yes (not-false _ (e .if1 .left))

@@ -32,8 +32,17 @@ do-command-requires : tie.Need-do-command-requires Inv-loop μ-loop
 do-command-requires c κs =
     let s = c .before .before .before .before .before .before .before .before .before in
     let v = c .before .before .before .before .before .loop in
-    let h = c .before .before .before .before .loop-test .taken in
-    (v .inv .0 .passes, (omega arith, (subst (Read (drop (v .used + 1) (s .args .commands .now))) (sym (c .before .before .before .read-command .ensures)) (read-at (s .args .commands .now) (v .used) h), v .inv .1)))
+    let h = c .before .before .before .before .loop-test .taken in (
+      v .inv .0 .passes,
+      (
+        omega arith,
+        (
+          subst (Read (drop (v .used + 1) (s .args .commands .now)))
+              (sym (c .before .before .before .read-command .ensures)) (read-at (s .args .commands .now) (v .used) h),
+          v .inv .1,
+        ),
+      ),
+    )
 
 -- ---- what is known after a command was done
 
@@ -97,10 +106,17 @@ loop-less : tie.Need-loop-less Inv-loop μ-loop
 loop-less c = let h = c .before .before .before .before .before .before .before .before .before .before .before .before .before .loop-test .taken in omega arith
 
 loop-again : tie.Need-loop-again Inv-loop μ-loop
-loop-again c = let k = c .before .before .before .before .before .before .before .before in (again (turn k) (c .before .before .if1 .left) (c .before .if2 .left), k .do-command .kept .1 .1 .1 .1 .0 ∙ before-turn k .loop .inv .1)
+loop-again c = let k = c .before .before .before .before .before .before .before .before in (
+  again (turn k) (c .before .before .if1 .left)
+      (c .before .if2 .left),
+  k .do-command .kept .1 .1 .1 .1 .0 ∙ before-turn k .loop .inv .1,
+)
 
 returns-3 : tie.Need-returns-3 Inv-loop μ-loop
-returns-3 c = let s = c .before .before .before .before .before in let L = c .before .loop in finished (s .args .book .now) (L .book) (s .args .commands .now) (s .args .output .now) (L .output) (L .used) (L .written) (L .inv .0) (c .loop-test .left)
+returns-3 c =
+    let s = c .before .before .before .before .before in
+    let L = c .before .loop in finished (s .args .book .now) (L .book) (s .args .commands .now) (s .args .output .now) (L .output) (L .used)
+    (L .written) (L .inv .0) (c .loop-test .left)
 
 pub run-commands-spec : {M : Type 1} → statement M
 run-commands-spec =

@@ -20,8 +20,12 @@ abbrev μ-loop : tie.MeasureT-loop
 returns : tie.Need-returns Inv-loop μ-loop
 returns c =
     let l = c .before .before .before .before .loop in
-    let s = c .before .before .before .before .before in
-    ((λ e. absurd (no-yes e)), λ e z. c .if1 .taken (same-word (s .args .a .now) (s .args .b .now) (l .i) (c .before .before .shared-slice-known .given (l .i) .fits) (c .before .shared-slice-known2 .given (l .i) .fits) z))
+    let s = c .before .before .before .before .before in (
+      (λ e. absurd (no-yes e)),
+      λ e z. c .if1 .taken
+          (same-word (s .args .a .now) (s .args .b .now) (l .i) (c .before .before .shared-slice-known .given (l .i) .fits)
+          (c .before .shared-slice-known2 .given (l .i) .fits) z),
+    )
 
 loop-again : tie.Need-loop-again Inv-loop μ-loop
 loop-again c =

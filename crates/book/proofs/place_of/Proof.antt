@@ -12,7 +12,8 @@ use Rattle.book.proofs.place_of.Statement.{statement}
 use Rattle.book.proofs.place_of.Tie as tie
 
 -- the place as it is read
-read : (k : tie.After-size-of2) → k .size-of2 .result ≡ view (k .before .before .before .before .before .args .m .now) .place (k .before .before .before .before .before .args .number)
+read : (k : tie.After-size-of2)
+    → k .size-of2 .result ≡ view (k .before .before .before .before .before .args .m .now) .place (k .before .before .before .before .before .args .number)
 read k =
     k .size-of2 .ensures ∙ k .before .field .ensures
     ∙ ap (λ (i : ℕ). getD (fields (take placeWords (drop placesAt (k .before .before .before .before .before .args .m .now)))) i 0) (k .before .before .size-of .ensures)
@@ -27,14 +28,16 @@ returns-2 : tie.Need-returns-2
 returns-2 c =
     let k = c .before .before .before .before in
     let s = k .before .before .before .before .before in
-    not-taken (s .args .m .now) (s .args .number) (k .size-of2 .result) (read k) (c .before .before .before .if1 .left) (c .before .is-marked .result) (c .before .is-marked .ensures) (not-true _ (c .if2 .taken))
+    not-taken (s .args .m .now) (s .args .number) (k .size-of2 .result) (read k) (c .before .before .before .if1 .left) (c .before .is-marked .result)
+    (c .before .is-marked .ensures) (not-true _ (c .if2 .taken))
 
 returns-3 : tie.Need-returns-3
 returns-3 c =
     let i = c .before .before .before .before in
     let k = i .before .before .before .before in
     let s = k .before .before .before .before .before in
-    other-number (s .args .m .now) (s .args .number) (k .size-of2 .result) (read k) (i .before .before .before .if1 .left) (i .before .is-marked .result) (i .before .is-marked .ensures) (not-false _ (i .if2 .left))
+    other-number (s .args .m .now) (s .args .number) (k .size-of2 .result) (read k) (i .before .before .before .if1 .left)
+    (i .before .is-marked .result) (i .before .is-marked .ensures) (not-false _ (i .if2 .left))
     (c .before .before .cell-of .result) (c .before .before .cell-of .ensures) (λ e. c .if3 .taken (e ∙ sym (c .before .wide .ensures)))
 
 returns-4 : tie.Need-returns-4
@@ -42,7 +45,8 @@ returns-4 c =
     let i = c .before .before .before .before in
     let k = i .before .before .before .before in
     let s = k .before .before .before .before .before in
-    found (s .args .m .now) (s .args .number) (k .size-of2 .result) (read k) (i .before .before .before .if1 .left) (i .before .is-marked .result) (i .before .is-marked .ensures) (not-false _ (i .if2 .left))
+    found (s .args .m .now) (s .args .number) (k .size-of2 .result) (read k) (i .before .before .before .if1 .left) (i .before .is-marked .result)
+    (i .before .is-marked .ensures) (not-false _ (i .if2 .left))
     (c .before .before .cell-of .result) (c .before .before .cell-of .ensures) (c .if3 .left ∙ c .before .wide .ensures)
 
 pub place-of-spec : {M : Type 1} → statement M

@@ -16,7 +16,8 @@ use Rattle.book.proofs.show.Tie as tie
 returns : tie.Need-returns
 returns c =
     let s = c .before .before .before in
-    shows-nothing (s .args .m .now) (s .args .number) (not-placed (s .args .m .now) (s .args .number) (c .before .place-of .result) (c .before .place-of .ensures) (c .if1 .taken))
+    shows-nothing (s .args .m .now) (s .args .number)
+    (not-placed (s .args .m .now) (s .args .number) (c .before .place-of .result) (c .before .place-of .ensures) (c .if1 .taken))
 
 module _ (c : tie.Else1) where
   abbrev s : tie.Start

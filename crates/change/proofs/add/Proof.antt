@@ -45,7 +45,8 @@ new f =
 form-is : (r : tie.After-row) → take (length (start (r .before .before) .args .term .now) - 0) (r .row .result) ≡ formOf (start (r .before .before) .args .term .now)
 form-is r = row-form (r .row .result) (start (r .before .before) .args .term .now) (start (r .before .before) .args .number) (r .row .ensures)
 
-form-long : (r : tie.After-row) → length (take (length (start (r .before .before) .args .term .now) - 0) (r .row .result)) ≡ length (start (r .before .before) .args .term .now)
+form-long : (r : tie.After-row)
+    → length (take (length (start (r .before .before) .args .term .now) - 0) (r .row .result)) ≡ length (start (r .before .before) .args .term .now)
 form-long r = ap length (form-is r) ∙ length-map (start (r .before .before) .args .term .now) _
 
 returns : tie.Need-returns
@@ -78,7 +79,8 @@ descend-requires c κs =
     let r = c .before .before .before .before .before in
     let f = r .before .before in
     let s = start f in (
-      sound (s .args .m .now) (s .args .number) (its s) (s .pre .0) (new f) (f .lowest-free .result) (f .lowest-free .ensures) (r .before .if2 .left) (s .pre .1 .1) (s .pre .1 .0),
+      sound (s .args .m .now) (s .args .number) (its s) (s .pre .0) (new f) (f .lowest-free .result) (f .lowest-free .ensures) (r .before .if2 .left)
+          (s .pre .1 .1) (s .pre .1 .0),
       omega (arith, length-take signWords (drop signsAt (s .args .m .now)), length-drop signsAt (s .args .m .now), s .pre .0 .size),
     )
 
@@ -93,7 +95,8 @@ plant-requires c κs =
     let s = start f in
     let h = short f (r .before .if2 .left) in
     let l = form-long r in (
-      sound (s .args .m .now) (s .args .number) (its s) (s .pre .0) (new f) (f .lowest-free .result) (f .lowest-free .ensures) (r .before .if2 .left) (s .pre .1 .1) (s .pre .1 .0),
+      sound (s .args .m .now) (s .args .number) (its s) (s .pre .0) (new f) (f .lowest-free .result) (f .lowest-free .ensures) (r .before .if2 .left)
+          (s .pre .1 .1) (s .pre .1 .0),
       (omega (arith, l, h .0), (omega (arith, l, h .1), (d .0, d .1))),
     )
 
@@ -103,7 +106,8 @@ returns-3 c =
     let r = rows p in
     let f = r .before .before in
     let s = start f in
-    no-nodes (s .args .m .now) (s .args .number) (its s) (s .pre .0) (new f) (f .lowest-free .result) (f .lowest-free .ensures) (r .before .if2 .left) (s .pre .1 .1) (s .pre .1 .0)
+    no-nodes (s .args .m .now) (s .args .number) (its s) (s .pre .0) (new f) (f .lowest-free .result) (f .lowest-free .ensures) (r .before .if2 .left)
+    (s .pre .1 .1) (s .pre .1 .0)
     (p .plant .last .0) (p .plant .result) _ (form-is r) (p .plant .ensures) (c .if3 .taken)
 
 tree-kept : (p : tie.After-plant) → length (p .plant .last .0) ≡ treeWords
@@ -116,15 +120,18 @@ hang-requires c κs =
     let r = rows p in
     let f = r .before .before in
     let s = start f in
-    let h = hangable (s .args .m .now) (s .args .number) (its s) (s .pre .0) (new f) (f .lowest-free .result) (f .lowest-free .ensures) (r .before .if2 .left) (s .pre .1 .1) (s .pre .1 .0)
+    let h = hangable (s .args .m .now) (s .args .number) (its s) (s .pre .0) (new f) (f .lowest-free .result) (f .lowest-free .ensures)
+    (r .before .if2 .left) (s .pre .1 .1) (s .pre .1 .0)
     (p .plant .last .0) (p .plant .result) _ (form-is r) (p .plant .ensures) (e .if3 .left) (tree-kept p) in
     hangs (s .args .m .now) (p .plant .last .0) (tree-kept p) (p .plant .result) (f .lowest-free .result) (s .args .number) (c .wide .result) (c .wide .ensures) h
   where
     hangs : (ws t : List ℕ) → length t ≡ treeWords → (l r k n : ℕ) → n ≡ k → Hangable t l r k → Hangable (take treeWords (t ++ drop treeWords ws)) l r n
-    hangs ws t lt l r k n e h = subst (λ (z : ℕ). Hangable (take treeWords (t ++ drop treeWords ws)) l r z) (sym e) (subst (λ (z : List ℕ). Hangable z l r k) (sym (front-is treeWords ws t lt)) h)
+    hangs ws t lt l r k n e h = subst (λ (z : ℕ). Hangable (take treeWords (t ++ drop treeWords ws)) l r z) (sym e)
+        (subst (λ (z : List ℕ). Hangable z l r k) (sym (front-is treeWords ws t lt)) h)
 
 -- the tree alone changes, twice
-one : (p : tie.After-plant) → TreeOnly (start (free-at p) .args .m .now) (p .plant .last .0 ++ drop treeWords (start (free-at p) .args .m .now)) (shape (p .plant .last .0))
+one : (p : tie.After-plant)
+    → TreeOnly (start (free-at p) .args .m .now) (p .plant .last .0 ++ drop treeWords (start (free-at p) .args .m .now)) (shape (p .plant .last .0))
 one p = let s = start (free-at p) in tree-only (s .args .m .now) (p .plant .last .0) (s .pre .0 .size) (tree-kept p)
 
 module _ (h : tie.After-hang) where
@@ -145,10 +152,13 @@ module _ (h : tie.After-hang) where
 
   hung : Hung (shape (at .plant .last .0)) (shape (h .hang .last .0)) (at .plant .result) (free-at at .lowest-free .result) (start (free-at at) .args .number)
   hung =
-      hangs (start (free-at at) .args .m .now) (at .plant .last .0) (tree-kept at) (h .hang .last .0) (at .plant .result) (free-at at .lowest-free .result) (start (free-at at) .args .number) (h .before .wide .result) (h .before .wide .ensures) (h .hang .ensures)
+      hangs (start (free-at at) .args .m .now) (at .plant .last .0) (tree-kept at) (h .hang .last .0) (at .plant .result)
+      (free-at at .lowest-free .result) (start (free-at at) .args .number) (h .before .wide .result) (h .before .wide .ensures) (h .hang .ensures)
     where
-      hangs : (ws t : List ℕ) → length t ≡ treeWords → (t′ : List ℕ) (l r k n : ℕ) → n ≡ k → Hung (shape (take treeWords (t ++ drop treeWords ws))) (shape t′) l r n → Hung (shape t) (shape t′) l r k
-      hangs ws t lt t′ l r k n e h = subst (λ (z : ℕ). Hung (shape t) (shape t′) l r z) e (subst (λ (z : List ℕ). Hung (shape z) (shape t′) l r n) (front-is treeWords ws t lt) h)
+      hangs : (ws t : List ℕ) → length t ≡ treeWords → (t′ : List ℕ) (l r k n : ℕ) → n ≡ k
+          → Hung (shape (take treeWords (t ++ drop treeWords ws))) (shape t′) l r n → Hung (shape t) (shape t′) l r k
+      hangs ws t lt t′ l r k n e h = subst (λ (z : ℕ). Hung (shape t) (shape t′) l r z) e
+          (subst (λ (z : List ℕ). Hung (shape z) (shape t′) l r n) (front-is treeWords ws t lt) h)
 
 put-record-requires : tie.Need-put-record-requires
 put-record-requires c κs =
@@ -181,7 +191,8 @@ module _ (q : tie.After-put-record) where
       let r = rows p in
       let f = r .before .before in
       let s = start f in
-      taken-now (s .args .m .now) (s .args .number) (its s) (s .pre .0) (new f) (f .lowest-free .result) (f .lowest-free .ensures) (r .before .if2 .left) (s .pre .1 .1) (s .pre .1 .0)
+      taken-now (s .args .m .now) (s .args .number) (its s) (s .pre .0) (new f) (f .lowest-free .result) (f .lowest-free .ensures)
+      (r .before .if2 .left) (s .pre .1 .1) (s .pre .1 .0)
       (p .plant .last .0) (p .plant .result) _ (form-is r) (p .plant .ensures) (h .before .before .before .if3 .left)
       (h .hang .last .0) _ (q .put-record .last .0) _ (one p) (hung h) (two h) (q .put-record .ensures) long
 

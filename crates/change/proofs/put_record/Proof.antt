@@ -20,7 +20,8 @@ part-store-end : tie.Need-part-store-end
 part-store-end c =
     let f = c .before .before in
     let s = f .before .before .before .before .before in
-    let l = two-long (s .args .m .now) (f .put-field .last .0) (termsAt + recordWords * s .args .r - 1) (length (s .args .term .now)) (s .pre .0) (places-long (s .args .m .now) (f .put-field .last .0) (f .put-field .kept .0) (s .pre .0)) in
+    let l = two-long (s .args .m .now) (f .put-field .last .0) (termsAt + recordWords * s .args .r - 1) (length (s .args .term .now)) (s .pre .0)
+    (places-long (s .args .m .now) (f .put-field .last .0) (f .put-field .kept .0) (s .pre .0)) in
     omega (arith, l, s .pre .1)
 
 module _ (c : tie.After-slice-known3) where
@@ -42,17 +43,23 @@ module _ (c : tie.After-slice-known3) where
   lq : length (z .store .last .0) ≡ termWords
   lq =
       let l = two-long (s .args .m .now) (f .put-field .last .0) (termsAt + recordWords * s .args .r - 1) (length (s .args .term .now)) (s .pre .0) lp in
-      z .store .kept .0 ∙ term-long (set (putMid placesAt placeWords (s .args .m .now) (f .put-field .last .0)) (termsAt + recordWords * s .args .r - 1) (length (s .args .term .now))) (termsAt + recordWords * s .args .r) (termsAt + recordWords * s .args .r + termWords - (termsAt + recordWords * s .args .r)) (omega arith) (omega (arith, l, s .pre .1))
+      z .store .kept .0 ∙ term-long (set (putMid placesAt placeWords (s .args .m .now) (f .put-field .last .0))
+      (termsAt + recordWords * s .args .r - 1) (length (s .args .term .now))) (termsAt + recordWords * s .args .r)
+      (termsAt + recordWords * s .args .r + termWords - (termsAt + recordWords * s .args .r)) (omega arith) (omega (arith, l, s .pre .1))
 
 same-length : tie.Need-same-length
 same-length c =
-    stored-long (s c .args .m .now) (f c .put-field .last .0) (z c .store .last .0) (s c .args .number) (s c .args .r) (length (s c .args .term .now)) (plain (s c .args .term .now))
-    (s c .pre .0) (s c .pre .1) (s c .pre .2) (lp c) (fp c) refl (termsAt + recordWords * s c .args .r + termWords - (termsAt + recordWords * s c .args .r)) (omega arith) (lq c) (z c .store .ensures)
+    stored-long (s c .args .m .now) (f c .put-field .last .0) (z c .store .last .0) (s c .args .number) (s c .args .r) (length (s c .args .term .now))
+    (plain (s c .args .term .now))
+    (s c .pre .0) (s c .pre .1) (s c .pre .2) (lp c) (fp c) refl
+    (termsAt + recordWords * s c .args .r + termWords - (termsAt + recordWords * s c .args .r)) (omega arith) (lq c) (z c .store .ensures)
 
 returns : tie.Need-returns
 returns c =
-    stored (s c .args .m .now) (f c .put-field .last .0) (z c .store .last .0) (s c .args .number) (s c .args .r) (length (s c .args .term .now)) (plain (s c .args .term .now))
-    (s c .pre .0) (s c .pre .1) (s c .pre .2) (lp c) (fp c) refl (termsAt + recordWords * s c .args .r + termWords - (termsAt + recordWords * s c .args .r)) (omega arith) (lq c) (z c .store .ensures)
+    stored (s c .args .m .now) (f c .put-field .last .0) (z c .store .last .0) (s c .args .number) (s c .args .r) (length (s c .args .term .now))
+    (plain (s c .args .term .now))
+    (s c .pre .0) (s c .pre .1) (s c .pre .2) (lp c) (fp c) refl
+    (termsAt + recordWords * s c .args .r + termWords - (termsAt + recordWords * s c .args .r)) (omega arith) (lq c) (z c .store .ensures)
 
 pub put-record-spec : {M : Type 1} → statement M
 put-record-spec =

@@ -11,12 +11,14 @@ use Rattle.change.proofs.remove.Tie as tie
 
 -- the place that was found
 here : (c : tie.Else1) → Placed (c .before .before .before .before .args .m .now) (c .before .before .before .before .args .number) (c .before .place-of .result)
-here c = placed (c .before .before .before .before .args .m .now) (c .before .before .before .before .args .number) (c .before .place-of .result) (c .before .place-of .ensures) (c .if1 .left)
+here c = placed (c .before .before .before .before .args .m .now) (c .before .before .before .before .args .number) (c .before .place-of .result)
+    (c .before .place-of .ensures) (c .if1 .left)
 
 returns : tie.Need-returns
 returns c =
     let s = c .before .before .before .before in
-    nothing-removed (s .args .m .now) (s .args .number) (s .pre .0) (not-placed (s .args .m .now) (s .args .number) (c .before .place-of .result) (c .before .place-of .ensures) (c .if1 .taken))
+    nothing-removed (s .args .m .now) (s .args .number) (s .pre .0)
+    (not-placed (s .args .m .now) (s .args .number) (c .before .place-of .result) (c .before .place-of .ensures) (c .if1 .taken))
 
 add-trim : tie.Need-add-trim
 add-trim c = omega (arith, here (c .before) .low)
@@ -31,7 +33,8 @@ returns-2 c =
     let t = c .before .before in
     let i = t .before .before in
     let s = i .before .before .before .before in
-    rule-gone (s .args .m .now) (s .args .number) (i .before .place-of .result) (s .pre .0) (here i) (t .trim .last .0) (t .trim .kept .0 ∙ tree-long (s .args .m .now) (s .pre .0 .size)) (t .trim .ensures)
+    rule-gone (s .args .m .now) (s .args .number) (i .before .place-of .result) (s .pre .0) (here i) (t .trim .last .0)
+    (t .trim .kept .0 ∙ tree-long (s .args .m .now) (s .pre .0 .size)) (t .trim .ensures)
 
 pub remove-spec : {M : Type 1} → statement M
 remove-spec =

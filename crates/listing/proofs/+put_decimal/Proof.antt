@@ -95,7 +95,9 @@ put-decimal-returns-2 : (t : ℕ) → put-decimal-lts.Need-returns-2 (
   put-decimal-below t,
   put-decimal.Post,
 ) (put-decimal-at t) put-decimal.Post
-put-decimal-returns-2 t c = let p = c .before .before in let q = p .before .before .before .before in same-bytes (sym (more-digits _ (q .before .before .if1 .left))) (both (q .put-decimal .ensures) (p .put-byte2 .ensures))
+put-decimal-returns-2 t c =
+    let p = c .before .before in
+    let q = p .before .before .before .before in same-bytes (sym (more-digits _ (q .before .before .if1 .left))) (both (q .put-decimal .ensures) (p .put-byte2 .ensures))
 
 pub +put-decimal-spec : {M : Type 1} → statement M
 +put-decimal-spec = close μ-put-decimal λ t. put-decimal-lts.spec (

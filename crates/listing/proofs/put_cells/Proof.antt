@@ -11,7 +11,8 @@ use Rattle.listing.proofs.put_cells.Statement.{statement}
 use Rattle.listing.proofs.put_cells.Tie as tie
 
 abbrev Inv-loop : tie.InvT-loop
-Inv-loop text₀ at cells end₀ i₀ text end i = (length text ≡ length text₀) × (i ≤ length cells) × Rest (hexCells (drop i cells)) text end (puts (hexCells cells) (page text₀ at))
+Inv-loop text₀ at cells end₀ i₀ text end i = (length text ≡ length text₀) × (i ≤ length cells)
+    × Rest (hexCells (drop i cells)) text end (puts (hexCells cells) (page text₀ at))
 
 abbrev μ-loop : tie.MeasureT-loop
 μ-loop text₀ at cells end₀ i₀ text end i = length cells - i

@@ -15,7 +15,8 @@ returns c =
     let p1 = p2 .before .before .before .before in
     let q = p1 .before .before .before in
     let s = q .before .before in
-    lists {cells = s .args .records .now} (λ i. omega (arith, q .shared-slice-known .given i)) (omega (arith, s .fits .stop)) (omega (arith, s .fits .used)) (both (both (p1 .put-bytes .ensures) (p2 .put-records .ensures)) (p3 .put-stop .ensures))
+    lists {cells = s .args .records .now} (λ i. omega (arith, q .shared-slice-known .given i)) (omega (arith, s .fits .stop))
+    (omega (arith, s .fits .used)) (both (both (p1 .put-bytes .ensures) (p2 .put-records .ensures)) (p3 .put-stop .ensures))
 
 pub put-listing-spec : {M : Type 1} → statement M
 put-listing-spec =

@@ -13,7 +13,8 @@ returns c =
     let p3 = p4 .before .before .before .before in
     let p2 = p3 .before .before .before .before in
     let p1 = p2 .before .before .before .before in
-    both (both (both (both (both (both (p1 .put-decimal .ensures) (p2 .put-byte .ensures)) (p3 .put-decimal2 .ensures)) (p4 .put-byte2 .ensures)) (p5 .put-decimal3 .ensures)) (p6 .put-cells .ensures)) (p7 .put-byte3 .ensures)
+    both (both (both (both (both (both (p1 .put-decimal .ensures) (p2 .put-byte .ensures)) (p3 .put-decimal2 .ensures)) (p4 .put-byte2 .ensures))
+    (p5 .put-decimal3 .ensures)) (p6 .put-cells .ensures)) (p7 .put-byte3 .ensures)
 
 pub put-record-spec : {M : Type 1} → statement M
 put-record-spec =

@@ -33,12 +33,14 @@ loop-again c =
       p .put-record .kept .0 ∙ l .inv .0,
       omega arith,
       omega arith,
-      some-put _ (ap (recordLines (l .position)) (record-at (s .args .records .now) (l .place) (q .least .result) (omega arith) (q .least .ensures))) (l .inv .3) (p .put-record .ensures),
+      some-put _ (ap (recordLines (l .position)) (record-at (s .args .records .now) (l .place) (q .least .result) (omega arith) (q .least .ensures)))
+          (l .inv .3) (p .put-record .ensures),
     )
 
 returns : tie.Need-returns Inv-loop μ-loop
 unfolding recordLines recordsBy
-returns c = let l = c .before .loop in none-left (ap (λ (cells : List ℕ). recordLines (l .position) (recordsIn cells)) (drop-of-length-le _ (c .loop-test .left))) (l .inv .3)
+returns c = let l = c .before .loop in none-left
+    (ap (λ (cells : List ℕ). recordLines (l .position) (recordsIn cells)) (drop-of-length-le _ (c .loop-test .left))) (l .inv .3)
 
 pub put-records-spec : {M : Type 1} → statement M
 put-records-spec =

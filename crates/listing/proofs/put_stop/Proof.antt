@@ -13,7 +13,8 @@ returns c =
     let p3 = p4 .before .before .before .before in
     let p2 = p3 .before .before .before .before .before in
     let p1 = p2 .before .before .before .before in
-    both (both (both (both (both (both (p1 .put-bytes .ensures) (p2 .put-decimal .ensures)) (p3 .put-bytes2 .ensures)) (p4 .put-decimal2 .ensures)) (p5 .put-bytes3 .ensures)) (p6 .put-decimal3 .ensures)) (p7 .put-byte .ensures)
+    both (both (both (both (both (both (p1 .put-bytes .ensures) (p2 .put-decimal .ensures)) (p3 .put-bytes2 .ensures)) (p4 .put-decimal2 .ensures))
+    (p5 .put-bytes3 .ensures)) (p6 .put-decimal3 .ensures)) (p7 .put-byte .ensures)
 
 pub put-stop-spec : {M : Type 1} → statement M
 put-stop-spec =

@@ -39,7 +39,8 @@ returns-3 : tie.Need-returns-3
 returns-3 c =
     let f = c .before .before in
     let k = f .before .before .before .before .before .before .pre in
-    enters-so _ (no-slot (subst (Holds _ (k .names)) (c .if3 .taken) (k .holds)) (named (f .before .before)) (found-none (k .holds) _ (k .count) _ _ (f .find .ensures) (c .before .if2 .left))) refl
+    enters-so _ (no-slot (subst (Holds _ (k .names)) (c .if3 .taken) (k .holds)) (named (f .before .before))
+    (found-none (k .holds) _ (k .count) _ _ (f .find .ensures) (c .before .if2 .left))) refl
 
 write-requires : tie.Need-write-requires
 write-requires c κs =

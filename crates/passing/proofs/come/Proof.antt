@@ -29,8 +29,10 @@ returns-4 c =
     let l = k .before .before .before .before in
     let s = l .before .before .before .before in
     let q = l .before .before .parent-of in
-    came (s .args .left .now) (s .args .w) (s .args .n) (s .args .p) (s .args .low) (c .before .before .clear .last .0) (q .result) (l .cell-of .result) (k .before .is-marked .result) (s .pre .0) (s .pre .1)
-    (q .ensures) (l .before .if1 .left) (l .cell-of .ensures) (k .before .before .before .if2 .left) (k .before .is-marked .ensures) (not-false _ (k .if3 .left)) (c .before .before .clear .ensures)
+    came (s .args .left .now) (s .args .w) (s .args .n) (s .args .p) (s .args .low) (c .before .before .clear .last .0) (q .result)
+    (l .cell-of .result) (k .before .is-marked .result) (s .pre .0) (s .pre .1)
+    (q .ensures) (l .before .if1 .left) (l .cell-of .ensures) (k .before .before .before .if2 .left) (k .before .is-marked .ensures)
+    (not-false _ (k .if3 .left)) (c .before .before .clear .ensures)
 
 pub come-spec : {M : Type 1} → statement M
 come-spec =

@@ -36,7 +36,9 @@ slice-read-word : tie.Need-slice-read-word Inv-loop μ-loop
 slice-read-word c = search needs
 
 loop-holds : tie.Need-loop-holds Inv-loop μ-loop
-loop-holds c = let s = c .before .before .before .before .before .before .before in down-start (s .args .m .now) (s .args .left .now) (s .args .way .now) (s .args .wants .now) (s .args .stack .now) (s .args .at .x) (s .args .at .p) (s .args .at .low) (s .args .at .depth) (s .args .at .top) (s .pre .0) (s .pre .1)
+loop-holds c = let s = c .before .before .before .before .before .before .before in down-start (s .args .m .now) (s .args .left .now)
+    (s .args .way .now) (s .args .wants .now) (s .args .stack .now) (s .args .at .x) (s .args .at .p) (s .args .at .low) (s .args .at .depth)
+    (s .args .at .top) (s .pre .0) (s .pre .1)
 
 enter-requires : tie.Need-enter-requires Inv-loop μ-loop
 enter-requires c κs = search needs
@@ -61,7 +63,9 @@ returns c =
     let g = c .before .before .before .before .enter in
     let l = c .before .before .before .before .before .before .before .loop in
     let s = c .before .before .before .before .before .before .before .before .before .before .before .before .before .before .before in
-    down-lost (s .args .m .now) (s .args .left .now) (l .left) (l .way) (l .wants) (l .stack) (l .x) (l .p) (l .low) (l .depth) (l .top) (l .k) (l .word) (l .inv) (g .last .1 .0) (l .way) (l .wants) (l .stack) _ _ _ _ _ (g .result .word) (g .result .right) _ (c .before .before .before .before .before .before .loop-test .taken) (g .ensures) (not-true _ (c .before .if1 .taken)) (c .lost .ensures)
+    down-lost (s .args .m .now) (s .args .left .now) (l .left) (l .way) (l .wants) (l .stack) (l .x) (l .p) (l .low) (l .depth) (l .top) (l .k)
+    (l .word) (l .inv) (g .last .1 .0) (l .way) (l .wants) (l .stack) _ _ _ _ _ (g .result .word) (g .result .right) _
+    (c .before .before .before .before .before .before .loop-test .taken) (g .ensures) (not-true _ (c .before .if1 .taken)) (c .lost .ensures)
 
 cell-of-requires : tie.Need-cell-of-requires Inv-loop μ-loop
 cell-of-requires c κs = search needs
@@ -77,7 +81,9 @@ number-requires c κs =
     let k = c .before .before .before .before .before .before .before .before in
     let l = k .before .before .before .loop in
     let s = k .before .before .before .before .before .before .before .before .before .before .before in
-    let q = entered-low (s .args .m .now) (s .args .left .now) (l .left) (l .way) (l .wants) (l .stack) (l .x) (l .p) (l .low) (l .depth) (l .top) (l .k) (l .word) (l .inv) (k .enter .last .1 .0) (k .enter .result .word) (k .enter .result .right) (k .enter .ensures) (not-false _ (c .before .before .before .before .before .if1 .left)) (k .before .before .loop-test .taken) in
+    let q = entered-low (s .args .m .now) (s .args .left .now) (l .left) (l .way) (l .wants) (l .stack) (l .x) (l .p) (l .low) (l .depth) (l .top)
+    (l .k) (l .word) (l .inv) (k .enter .last .1 .0) (k .enter .result .word) (k .enter .result .right) (k .enter .ensures)
+    (not-false _ (c .before .before .before .before .before .if1 .left)) (k .before .before .loop-test .taken) in
     (omega (arith, c .before .before .before .before .cell-of .ensures, q .1), l .inv .known)
 
 add-word : tie.Need-add-word Inv-loop μ-loop
@@ -106,7 +112,9 @@ slice-write-way c =
     let k = c .before .before .before .before .before .before .before .before .before in
     let l = k .before .before .before .loop in
     let s = k .before .before .before .before .before .before .before .before .before .before .before in
-    let q = entered-low (s .args .m .now) (s .args .left .now) (l .left) (l .way) (l .wants) (l .stack) (l .x) (l .p) (l .low) (l .depth) (l .top) (l .k) (l .word) (l .inv) (k .enter .last .1 .0) (k .enter .result .word) (k .enter .result .right) (k .enter .ensures) (not-false _ (c .before .before .before .before .before .before .if1 .left)) (k .before .before .loop-test .taken) in
+    let q = entered-low (s .args .m .now) (s .args .left .now) (l .left) (l .way) (l .wants) (l .stack) (l .x) (l .p) (l .low) (l .depth) (l .top)
+    (l .k) (l .word) (l .inv) (k .enter .last .1 .0) (k .enter .result .word) (k .enter .result .right) (k .enter .ensures)
+    (not-false _ (c .before .before .before .before .before .before .if1 .left)) (k .before .before .loop-test .taken) in
     omega (arith, q .0, l .inv .sizes .ways)
 
 mul-wants : tie.Need-mul-wants Inv-loop μ-loop
@@ -117,7 +125,9 @@ slice-write-wants c =
     let k = c .before .before .before .before .before .before .before .before .before in
     let l = k .before .before .before .loop in
     let s = k .before .before .before .before .before .before .before .before .before .before .before in
-    let q = entered-low (s .args .m .now) (s .args .left .now) (l .left) (l .way) (l .wants) (l .stack) (l .x) (l .p) (l .low) (l .depth) (l .top) (l .k) (l .word) (l .inv) (k .enter .last .1 .0) (k .enter .result .word) (k .enter .result .right) (k .enter .ensures) (not-false _ (c .before .before .before .before .before .before .if1 .left)) (k .before .before .loop-test .taken) in
+    let q = entered-low (s .args .m .now) (s .args .left .now) (l .left) (l .way) (l .wants) (l .stack) (l .x) (l .p) (l .low) (l .depth) (l .top)
+    (l .k) (l .word) (l .inv) (k .enter .last .1 .0) (k .enter .result .word) (k .enter .result .right) (k .enter .ensures)
+    (not-false _ (c .before .before .before .before .before .before .if1 .left)) (k .before .before .loop-test .taken) in
     omega (arith, q .0, l .inv .sizes .counts)
 
 first-of-requires : tie.Need-first-of-requires Inv-loop μ-loop
@@ -128,7 +138,9 @@ loop-less c =
     let k = c .before .before .before .before .before .before .before .before .before .before in
     let l = k .before .before .before .loop in
     let s = k .before .before .before .before .before .before .before .before .before .before .before in
-    let q = entered-low (s .args .m .now) (s .args .left .now) (l .left) (l .way) (l .wants) (l .stack) (l .x) (l .p) (l .low) (l .depth) (l .top) (l .k) (l .word) (l .inv) (k .enter .last .1 .0) (k .enter .result .word) (k .enter .result .right) (k .enter .ensures) (not-false _ (c .before .before .before .before .before .before .before .if1 .left)) (k .before .before .loop-test .taken) in
+    let q = entered-low (s .args .m .now) (s .args .left .now) (l .left) (l .way) (l .wants) (l .stack) (l .x) (l .p) (l .low) (l .depth) (l .top)
+    (l .k) (l .word) (l .inv) (k .enter .last .1 .0) (k .enter .result .word) (k .enter .result .right) (k .enter .ensures)
+    (not-false _ (c .before .before .before .before .before .before .before .if1 .left)) (k .before .before .loop-test .taken) in
     omega (arith, q .0)
 
 loop-again : tie.Need-loop-again Inv-loop μ-loop
@@ -140,7 +152,10 @@ loop-again c =
     let u = c .before .before .before .before .before .before .cell-of in
     let d = c .before .before .before .before .push in
     let n = c .before .number in
-    down-on (s .args .m .now) (s .args .left .now) (l .left) (l .way) (l .wants) (l .stack) (l .x) (l .p) (l .low) (l .depth) (l .top) (l .k) (l .word) (l .inv) (g .last .1 .0) (g .result .word) (g .result .right) (g .ensures) (not-false _ (c .before .before .before .before .before .before .before .if1 .left)) (k .before .before .loop-test .taken) (d .last .0) (d .result) (u .result) (c .first-of .result) (n .result)
+    down-on (s .args .m .now) (s .args .left .now) (l .left) (l .way) (l .wants) (l .stack) (l .x) (l .p) (l .low) (l .depth) (l .top) (l .k)
+    (l .word) (l .inv) (g .last .1 .0) (g .result .word) (g .result .right) (g .ensures)
+    (not-false _ (c .before .before .before .before .before .before .before .if1 .left)) (k .before .before .loop-test .taken) (d .last .0)
+    (d .result) (u .result) (c .first-of .result) (n .result)
     (g .kept .1 .0) (d .kept .0) (u .ensures) (d .ensures) (n .ensures .0) (c .first-of .ensures)
 
 same-length-5 : tie.Need-same-length-5 Inv-loop μ-loop
@@ -159,7 +174,8 @@ returns-2 : tie.Need-returns-2 Inv-loop μ-loop
 returns-2 c =
     let l = c .before .loop in
     let s = c .before .before .before .before .before .before .before .before .before in
-    down-end (s .args .m .now) (s .args .left .now) (l .left) (l .way) (l .wants) (l .stack) (l .x) (l .p) (l .low) (l .depth) (l .top) (l .k) (l .word) (l .inv) (c .loop-test .left)
+    down-end (s .args .m .now) (s .args .left .now) (l .left) (l .way) (l .wants) (l .stack) (l .x) (l .p) (l .low) (l .depth) (l .top) (l .k)
+    (l .word) (l .inv) (c .loop-test .left)
 
 pub down-spec : {M : Type 1} → statement M
 down-spec =

@@ -16,13 +16,15 @@ wrong-requires : tie.Need-wrong-requires
 wrong-requires c κs = search needs
 
 returns : tie.Need-returns
-returns c = let s = c .before .before .before .before in rule-refused (s .args .m .now) (s .args .left .now) (s .args .x) (s .args .p) (s .args .low) _ _ _ (c .wrong .ensures) (λ q. omega (arith, c .before .if1 .taken, q .rule))
+returns c = let s = c .before .before .before .before in rule-refused (s .args .m .now) (s .args .left .now) (s .args .x) (s .args .p) (s .args .low)
+    _ _ _ (c .wrong .ensures) (λ q. omega (arith, c .before .if1 .taken, q .rule))
 
 wrong-requires-2 : tie.Need-wrong-requires-2
 wrong-requires-2 c κs = search needs
 
 returns-2 : tie.Need-returns-2
-returns-2 c = let s = c .before .before .before .before .before in rule-refused (s .args .m .now) (s .args .left .now) (s .args .x) (s .args .p) (s .args .low) _ _ _ (c .wrong2 .ensures) (λ q. omega (arith, c .before .if2 .taken, q .most))
+returns-2 c = let s = c .before .before .before .before .before in rule-refused (s .args .m .now) (s .args .left .now) (s .args .x) (s .args .p)
+    (s .args .low) _ _ _ (c .wrong2 .ensures) (λ q. omega (arith, c .before .if2 .taken, q .most))
 
 add-w : tie.Need-add-w
 add-w c = search needs
@@ -40,7 +42,8 @@ wrong-requires-3 : tie.Need-wrong-requires-3
 wrong-requires-3 c κs = search needs
 
 returns-3 : tie.Need-returns-3
-returns-3 c = let s = c .before .before .before .before .before .before .before .before in rule-refused (s .args .m .now) (s .args .left .now) (s .args .x) (s .args .p) (s .args .low) _ _ _ (c .wrong3 .ensures) (λ q. c .before .if3 .taken (c .before .before .first-of .ensures ∙ q .leaf))
+returns-3 c = let s = c .before .before .before .before .before .before .before .before in rule-refused (s .args .m .now) (s .args .left .now)
+    (s .args .x) (s .args .p) (s .args .low) _ _ _ (c .wrong3 .ensures) (λ q. c .before .if3 .taken (c .before .before .first-of .ensures ∙ q .leaf))
 
 sub-come : tie.Need-sub-come
 sub-come c = search needs
@@ -58,7 +61,9 @@ returns-4 : tie.Need-returns-4
 returns-4 c =
     let k = c .before .before .before .before .come in
     let s = c .before .before .before .before .before .before .before .before .before .before .before .before .before in
-    rule-refused (s .args .m .now) (s .args .left .now) (s .args .x) (s .args .p) (s .args .low) _ _ _ (c .wrong4 .ensures) (rule-not-come (s .args .m .now) (s .args .left .now) (s .args .x) (s .args .p) (s .args .low) (k .last .0) _ _ (k .result) refl refl (k .ensures) (not-true _ (c .before .if4 .taken)))
+    rule-refused (s .args .m .now) (s .args .left .now) (s .args .x) (s .args .p) (s .args .low) _ _ _ (c .wrong4 .ensures)
+    (rule-not-come (s .args .m .now) (s .args .left .now) (s .args .x) (s .args .p) (s .args .low) (k .last .0) _ _ (k .result) refl refl
+    (k .ensures) (not-true _ (c .before .if4 .taken)))
 
 same-length-2 : tie.Need-same-length-2
 same-length-2 c = search needs
@@ -68,7 +73,9 @@ returns-5 c =
     let k = c .before .before .before .come in
     let v = c .before .before .before .before .before .before in
     let s = c .before .before .before .before .before .before .before .before .before .before .before .before in
-    rule-enters (s .args .m .now) (s .args .left .now) (s .args .x) (s .args .p) (s .args .low) (k .last .0) _ _ (k .result) refl refl (k .ensures) (not-false _ (c .if4 .left)) (v .before .before .before .if1 .left) (v .before .before .if2 .left) (v .first-of .result) (v .first-of .ensures) (c .before .before .before .before .before .if3 .left)
+    rule-enters (s .args .m .now) (s .args .left .now) (s .args .x) (s .args .p) (s .args .low) (k .last .0) _ _ (k .result) refl refl (k .ensures)
+    (not-false _ (c .if4 .left)) (v .before .before .before .if1 .left) (v .before .before .if2 .left) (v .first-of .result)
+    (v .first-of .ensures) (c .before .before .before .before .before .if3 .left)
 
 pub enter-rule-spec : {M : Type 1} → statement M
 enter-rule-spec =

@@ -20,11 +20,17 @@ loop-holds c = (refl, omega arith, λ j l. absurd (omega arith))
 
 loop-again : tie.Need-loop-again Inv-loop μ-loop
 loop-again c =
-    let l = c .before .before .loop in
-    (length-set (l .left) (l .i) _ ∙ l .inv .0, omega (arith, c .before .loop-test .taken), copied-on (c .before .before .before .args .m .now) (l .left) (l .i) (l .inv .0) (c .before .loop-test .taken) (l .inv .2))
+    let l = c .before .before .loop in (
+      length-set (l .left) (l .i) _
+          ∙ l .inv .0,
+      omega (arith, c .before .loop-test .taken),
+      copied-on (c .before .before .before .args .m .now) (l .left) (l .i) (l .inv .0)
+          (c .before .loop-test .taken) (l .inv .2),
+    )
 
 returns : tie.Need-returns Inv-loop μ-loop
 returns c = let l = c .before .loop in let s = c .before .before in copied-all (s .args .m .now) (l .left) (l .i) (s .pre) (l .inv .0) (c .loop-test .left) (l .inv .2)
 
 pub maps-spec : {M : Type 1} → statement M
-maps-spec = tie.close (tie.spec Inv-loop μ-loop loop-holds (λ c. search needs) (λ c. search needs) (λ c. search needs) (λ c. search needs) (λ c. search needs) (λ c. search needs) loop-again returns)
+maps-spec = tie.close (tie.spec Inv-loop μ-loop loop-holds (λ c. search needs) (λ c. search needs) (λ c. search needs) (λ c. search needs)
+    (λ c. search needs) (λ c. search needs) loop-again returns)

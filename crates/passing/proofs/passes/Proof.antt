@@ -47,7 +47,8 @@ returns-2 : tie.Need-returns-2 Inv-loop μ-loop
 returns-2 c =
     let f = c .before .before .before in
     let s = c .before .before .before .before .before .before .before .before in
-    no-child (s .args .m .now) (f .before .before .maps .result) (f .before .before .before .if1 .left) (f .before .before .maps .ensures) (f .first-of .result) (f .first-of .ensures) (c .before .before .if2 .taken) (c .is-clear .result) (c .is-clear .ensures)
+    no-child (s .args .m .now) (f .before .before .maps .result) (f .before .before .before .if1 .left) (f .before .before .maps .ensures)
+    (f .first-of .result) (f .first-of .ensures) (c .before .before .if2 .taken) (c .is-clear .result) (c .is-clear .ensures)
 
 loop-holds : tie.Need-loop-holds Inv-loop μ-loop
 loop-holds c =
@@ -75,7 +76,8 @@ down-requires : tie.Need-down-requires Inv-loop μ-loop
 down-requires c κs = let l = c .before .before .before .before .loop in (l .inv .sizes, l .inv .at)
 
 returns-3 : tie.Need-returns-3 Inv-loop μ-loop
-returns-3 c = let d = c .before .before .before .before .before .down in answers-no (c .before .before .before .before .before .before .before .before .before .before .before .before .before .before .before .before .before .args .m .now) (d .ensures .no (not-true _ (c .if3 .taken)))
+returns-3 c = let d = c .before .before .before .before .before .down in answers-no
+    (c .before .before .before .before .before .before .before .before .before .before .before .before .before .before .before .before .before .args .m .now) (d .ensures .no (not-true _ (c .if3 .taken)))
 
 slice-aggregate-rules : tie.Need-slice-aggregate-rules Inv-loop μ-loop
 slice-aggregate-rules c = search needs
@@ -94,11 +96,17 @@ rules-requires c κs =
     let d = c .before .before .before .before .before .before .before .before .before .down in
     let l = c .before .before .before .before .before .before .before .before .before .before .before .before .before .before .loop in
     let s = c .before .before .before .before .before .before .before .before .before .before .before .before .before .before .before .before .before .before .before .before .before in
-    let t = not-false _ (c .before .before .before .before .if3 .left) in
-    (sizes-after (s .args .m .now) (l .left) (l .way) (l .wants) (l .stack) (d .last .1 .0) (d .last .1 .1 .0) (d .last .1 .1 .1 .0) (d .last .1 .1 .1 .1 .0) (l .inv .sizes) (d .kept .1 .0) (d .kept .1 .1 .0) (d .kept .1 .1 .1 .0) (d .kept .1 .1 .1 .1 .0), (d .ensures .at t, d .ensures .whole t))
+    let t = not-false _ (c .before .before .before .before .if3 .left) in (
+      sizes-after (s .args .m .now) (l .left) (l .way) (l .wants) (l .stack) (d .last .1 .0) (d .last .1 .1 .0) (d .last .1 .1 .1 .0)
+          (d .last .1 .1 .1 .1 .0) (l .inv .sizes) (d .kept .1 .0) (d .kept .1 .1 .0) (d .kept .1 .1 .1 .0)
+          (d .kept .1 .1 .1 .1 .0),
+      (d .ensures .at t, d .ensures .whole t),
+    )
 
 returns-4 : tie.Need-returns-4 Inv-loop μ-loop
-returns-4 c = let k = c .before .before .rules in answers-no (c .before .before .before .before .before .before .before .before .before .before .before .before .before .before .before .before .before .before .before .before .before .before .before .before .args .m .now) (k .ensures .no (not-true _ (c .if4 .taken)))
+returns-4 c =
+    let s = c .before .before .before .before .before .before .before .before .before .before .before .before .before .before .before .before .before .before .before .before .before .before .before .before in
+    answers-no (s .args .m .now) (c .before .before .rules .ensures .no (not-true _ (c .if4 .taken)))
 
 slice-aggregate-is-clear-2 : tie.Need-slice-aggregate-is-clear-2 Inv-loop μ-loop
 slice-aggregate-is-clear-2 c = search needs
@@ -112,7 +120,9 @@ returns-5 c =
     let d = c .before .before .before .before .before .before .before .before .before .before .before .before .before .before .before .down in
     let l = c .before .before .before .before .before .before .before .before .before .before .before .before .before .before .before .before .before .before .before .before .loop in
     let s = c .before .before .before .before .before .before .before .before .before .before .before .before .before .before .before .before .before .before .before .before .before .before .before .before .before .before .before in
-    walk-over (s .args .m .now) (k .last .1 .0) (d .last .1 .1 .0) (d .last .1 .1 .1 .0) (d .last .1 .1 .1 .1 .0) (d .result .depth) (d .result .top) (l .inv .sizes .words) (k .ensures .over (not-false _ (c .before .before .before .if4 .left))) (c .before .before .if5 .taken) (c .is-clear2 .result) (c .is-clear2 .ensures)
+    walk-over (s .args .m .now) (k .last .1 .0) (d .last .1 .1 .0) (d .last .1 .1 .1 .0) (d .last .1 .1 .1 .1 .0) (d .result .depth) (d .result .top)
+    (l .inv .sizes .words) (k .ensures .over (not-false _ (c .before .before .before .if4 .left))) (c .before .before .if5 .taken)
+    (c .is-clear2 .result) (c .is-clear2 .ensures)
 
 sub-back : tie.Need-sub-back Inv-loop μ-loop
 sub-back c = search needs
@@ -149,8 +159,11 @@ loop-again c =
     let s = c .before .before .before .before .before .before .before .before .before .before .before .before .before .before .before .before .before .before .before .before .before .before .before .before .before .before in
     let o = k .ensures .over (not-false _ (c .before .before .if4 .left)) in
     let b = c .back in record {
-      sizes = sizes-after (s .args .m .now) (l .left) (l .way) (l .wants) (l .stack) (k .last .1 .0) (d .last .1 .1 .0) (d .last .1 .1 .1 .0) (d .last .1 .1 .1 .1 .0) (l .inv .sizes) (k .kept .1 .0 ∙ d .kept .1 .0) (d .kept .1 .1 .0) (d .kept .1 .1 .1 .0) (d .kept .1 .1 .1 .1 .0);
-      at = walk-back (s .args .m .now) (k .last .1 .0) (d .last .1 .1 .0) (d .last .1 .1 .1 .0) (d .last .1 .1 .1 .1 .0) (d .result .depth) (d .result .top) (l .inv .sizes .words) o (d .result .top - 1) _ (b .result .x) (b .result .p) (b .result .low) (b .result .depth) (b .result .top) (one-more (c .before .if5 .left)) refl (b .ensures);
+      sizes = sizes-after (s .args .m .now) (l .left) (l .way) (l .wants) (l .stack) (k .last .1 .0) (d .last .1 .1 .0) (d .last .1 .1 .1 .0)
+          (d .last .1 .1 .1 .1 .0) (l .inv .sizes) (k .kept .1 .0 ∙ d .kept .1 .0) (d .kept .1 .1 .0) (d .kept .1 .1 .1 .0) (d .kept .1 .1 .1 .1 .0);
+      at = walk-back (s .args .m .now) (k .last .1 .0) (d .last .1 .1 .0) (d .last .1 .1 .1 .0) (d .last .1 .1 .1 .1 .0) (d .result .depth)
+          (d .result .top) (l .inv .sizes .words) o (d .result .top - 1) _ (b .result .x) (b .result .p) (b .result .low) (b .result .depth)
+          (b .result .top) (one-more (c .before .if5 .left)) refl (b .ensures);
     }
 
 pub passes-spec : {M : Type 1} → statement M

@@ -5,10 +5,16 @@ use Rattle.passing.proofs.push.Statement.{statement}
 use Rattle.passing.proofs.push.Tie as tie
 
 returns : tie.Need-returns
-returns c = let f = c .before in let s = f .before .before in not-pushed (s .args .stack .now) (s .args .top) (s .args .w) (s .args .depth) (f .with-first .result) (f .with-first .ensures) (c .if1 .taken)
+returns c =
+    let f = c .before in
+    let s = f .before .before in not-pushed (s .args .stack .now) (s .args .top) (s .args .w) (s .args .depth) (f .with-first .result)
+    (f .with-first .ensures) (c .if1 .taken)
 
 returns-2 : tie.Need-returns-2
-returns-2 c = let f = c .before in let s = f .before .before in is-pushed (s .args .stack .now) (s .args .top) (s .args .w) (s .args .depth) (f .with-first .result) (f .with-first .ensures) (c .if1 .left)
+returns-2 c =
+    let f = c .before in
+    let s = f .before .before in is-pushed (s .args .stack .now) (s .args .top) (s .args .w) (s .args .depth) (f .with-first .result)
+    (f .with-first .ensures) (c .if1 .left)
 
 pub push-spec : {M : Type 1} → statement M
 push-spec =

@@ -22,7 +22,9 @@ abbrev μ-loop : tie.MeasureT-loop
 μ-loop m left₀ way wants stack p depth top x₀ low₀ left x low = tally (marked left) lastLink
 
 loop-holds : tie.Need-loop-holds Inv-loop μ-loop
-loop-holds c = let s = c .before .before .before .before .before in rules-start (s .args .m .now) (s .args .left .now) (s .args .way .now) (s .args .wants .now) (s .args .stack .now) (s .args .at .x) (s .args .at .p) (s .args .at .low) (s .args .at .depth) (s .args .at .top) (s .pre .0) (s .pre .1 .0) (s .pre .1 .1)
+loop-holds c = let s = c .before .before .before .before .before in rules-start (s .args .m .now) (s .args .left .now) (s .args .way .now)
+    (s .args .wants .now) (s .args .stack .now) (s .args .at .x) (s .args .at .p) (s .args .at .low) (s .args .at .depth) (s .args .at .top)
+    (s .pre .0) (s .pre .1 .0) (s .pre .1 .1)
 
 enter-rule-requires : tie.Need-enter-rule-requires Inv-loop μ-loop
 enter-rule-requires c κs = let l = c .before .loop in (l .inv .sizes .words, l .inv .sizes .maps)
@@ -35,7 +37,8 @@ returns c =
     let k = c .before .before .before .enter-rule in
     let l = c .before .before .before .before .before .loop in
     let s = c .before .before .before .before .before .before .before .before .before .before .before in
-    no-rule (s .args .m .now) (s .args .left .now) (l .left) (s .args .way .now) (s .args .wants .now) (s .args .stack .now) (l .x) (s .args .at .p) (l .low) (s .args .at .depth) (s .args .at .top) (l .inv) (k .last .1 .0) (k .result .word) (k .result .right) (k .ensures) (not-true _ (c .if1 .taken))
+    no-rule (s .args .m .now) (s .args .left .now) (l .left) (s .args .way .now) (s .args .wants .now) (s .args .stack .now) (l .x) (s .args .at .p)
+    (l .low) (s .args .at .depth) (s .args .at .top) (l .inv) (k .last .1 .0) (k .result .word) (k .result .right) (k .ensures) (not-true _ (c .if1 .taken))
 
 cell-of-requires : tie.Need-cell-of-requires Inv-loop μ-loop
 cell-of-requires c κs = search needs
@@ -46,7 +49,9 @@ sub-is-rule c =
     let l = c .before .before .before .before .before .before .loop in
     let s = c .before .before .before .before .before .before .before .before .before .before .before .before in
     let t = not-false _ (c .before .if1 .left) in
-    let q = rule-asked (s .args .m .now) (s .args .left .now) (l .left) (s .args .way .now) (s .args .wants .now) (s .args .stack .now) (l .x) (s .args .at .p) (l .low) (s .args .at .depth) (s .args .at .top) (l .inv) (k .last .1 .0) (k .result .word) (k .result .right) (k .ensures) t in omega (arith, q .rule)
+    let q = rule-asked (s .args .m .now) (s .args .left .now) (l .left) (s .args .way .now) (s .args .wants .now) (s .args .stack .now) (l .x)
+    (s .args .at .p) (l .low) (s .args .at .depth) (s .args .at .top) (l .inv) (k .last .1 .0) (k .result .word) (k .result .right) (k .ensures)
+    t in omega (arith, q .rule)
 
 is-rule-requires : tie.Need-is-rule-requires Inv-loop μ-loop
 is-rule-requires c κs =
@@ -54,8 +59,13 @@ is-rule-requires c κs =
     let l = c .before .before .before .before .before .before .loop in
     let s = c .before .before .before .before .before .before .before .before .before .before .before .before in
     let t = not-false _ (c .before .if1 .left) in
-    let q = rule-asked (s .args .m .now) (s .args .left .now) (l .left) (s .args .way .now) (s .args .wants .now) (s .args .stack .now) (l .x) (s .args .at .p) (l .low) (s .args .at .depth) (s .args .at .top) (l .inv) (k .last .1 .0) (k .result .word) (k .result .right) (k .ensures) t in
-    ((l .inv .sizes .words, l .inv .sizes .ways, omega (arith, q .most), l .inv .at .short), rule-word (s .args .m .now) (s .args .left .now) (l .left) (s .args .way .now) (s .args .wants .now) (s .args .stack .now) (l .x) (s .args .at .p) (l .low) (s .args .at .depth) (s .args .at .top) (l .inv) (k .last .1 .0) (k .result .word) (k .result .right) (k .ensures) t (c .cell-of .result) (c .cell-of .ensures))
+    let q = rule-asked (s .args .m .now) (s .args .left .now) (l .left) (s .args .way .now) (s .args .wants .now) (s .args .stack .now) (l .x)
+    (s .args .at .p) (l .low) (s .args .at .depth) (s .args .at .top) (l .inv) (k .last .1 .0) (k .result .word) (k .result .right) (k .ensures) t in (
+      (l .inv .sizes .words, l .inv .sizes .ways, omega (arith, q .most), l .inv .at .short),
+      rule-word (s .args .m .now) (s .args .left .now)
+          (l .left) (s .args .way .now) (s .args .wants .now) (s .args .stack .now) (l .x) (s .args .at .p) (l .low) (s .args .at .depth)
+          (s .args .at .top) (l .inv) (k .last .1 .0) (k .result .word) (k .result .right) (k .ensures) t (c .cell-of .result) (c .cell-of .ensures),
+    )
 
 same-length-2 : tie.Need-same-length-2 Inv-loop μ-loop
 same-length-2 c = search needs
@@ -65,7 +75,9 @@ returns-2 c =
     let k = c .before .before .before .before .before .before .enter-rule in
     let l = c .before .before .before .before .before .before .before .before .loop in
     let s = c .before .before .before .before .before .before .before .before .before .before .before .before .before .before in
-    other-rule (s .args .m .now) (s .args .left .now) (l .left) (s .args .way .now) (s .args .wants .now) (s .args .stack .now) (l .x) (s .args .at .p) (l .low) (s .args .at .depth) (s .args .at .top) (l .inv) (k .last .1 .0) (c .before .is-rule .result) (c .before .is-rule .ensures) (not-true _ (c .if2 .taken))
+    other-rule (s .args .m .now) (s .args .left .now) (l .left) (s .args .way .now) (s .args .wants .now) (s .args .stack .now) (l .x)
+    (s .args .at .p) (l .low) (s .args .at .depth) (s .args .at .top) (l .inv) (k .last .1 .0) (c .before .is-rule .result)
+    (c .before .is-rule .ensures) (not-true _ (c .if2 .taken))
 
 next-of-requires : tie.Need-next-of-requires Inv-loop μ-loop
 next-of-requires c κs = search needs
@@ -76,7 +88,10 @@ add-low c =
     let l = c .before .before .before .before .before .before .before .before .before .loop in
     let s = c .before .before .before .before .before .before .before .before .before .before .before .before .before .before .before in
     let t = not-false _ (c .before .before .before .before .if1 .left) in
-    let q = rule-low (s .args .m .now) (s .args .left .now) (l .left) (s .args .way .now) (s .args .wants .now) (s .args .stack .now) (l .x) (s .args .at .p) (l .low) (s .args .at .depth) (s .args .at .top) (l .inv) (k .last .1 .0) (k .result .word) (k .result .right) (k .ensures) t (c .before .before .is-rule .result) (c .before .before .is-rule .ensures) (not-false _ (c .before .if2 .left)) (c .before .before .before .cell-of .result) (c .before .before .before .cell-of .ensures) in omega (arith, q)
+    let q = rule-low (s .args .m .now) (s .args .left .now) (l .left) (s .args .way .now) (s .args .wants .now) (s .args .stack .now) (l .x)
+    (s .args .at .p) (l .low) (s .args .at .depth) (s .args .at .top) (l .inv) (k .last .1 .0) (k .result .word) (k .result .right) (k .ensures) t
+    (c .before .before .is-rule .result) (c .before .before .is-rule .ensures) (not-false _ (c .before .if2 .left))
+    (c .before .before .before .cell-of .result) (c .before .before .before .cell-of .ensures) in omega (arith, q)
 
 same-length-3 : tie.Need-same-length-3 Inv-loop μ-loop
 same-length-3 c = search needs
@@ -87,7 +102,10 @@ returns-3 c =
     let l = c .before .before .before .before .before .before .before .before .before .before .loop in
     let s = c .before .before .before .before .before .before .before .before .before .before .before .before .before .before .before .before in
     let t = not-false _ (c .before .before .before .before .before .if1 .left) in
-    rules-over (s .args .m .now) (s .args .left .now) (l .left) (s .args .way .now) (s .args .wants .now) (s .args .stack .now) (l .x) (s .args .at .p) (l .low) (s .args .at .depth) (s .args .at .top) (l .inv) (k .last .1 .0) (k .result .word) (k .result .right) (k .ensures) t (c .before .before .before .is-rule .result) (c .before .before .before .is-rule .ensures) (not-false _ (c .before .before .if2 .left)) (c .before .next-of .result) (c .before .next-of .ensures) (c .if3 .taken)
+    rules-over (s .args .m .now) (s .args .left .now) (l .left) (s .args .way .now) (s .args .wants .now) (s .args .stack .now) (l .x)
+    (s .args .at .p) (l .low) (s .args .at .depth) (s .args .at .top) (l .inv) (k .last .1 .0) (k .result .word) (k .result .right) (k .ensures) t
+    (c .before .before .before .is-rule .result) (c .before .before .before .is-rule .ensures) (not-false _ (c .before .before .if2 .left))
+    (c .before .next-of .result) (c .before .next-of .ensures) (c .if3 .taken)
 
 loop-less : tie.Need-loop-less Inv-loop μ-loop
 loop-less c =
@@ -95,7 +113,9 @@ loop-less c =
     let l = c .before .before .before .before .before .before .before .before .before .before .loop in
     let s = c .before .before .before .before .before .before .before .before .before .before .before .before .before .before .before .before in
     let t = not-false _ (c .before .before .before .before .before .if1 .left) in
-    let q = one-less (s .args .m .now) (s .args .left .now) (l .left) (s .args .way .now) (s .args .wants .now) (s .args .stack .now) (l .x) (s .args .at .p) (l .low) (s .args .at .depth) (s .args .at .top) (l .inv) (k .last .1 .0) (k .result .word) (k .result .right) (k .ensures) t (c .before .before .before .is-rule .result) (c .before .before .before .is-rule .ensures) (not-false _ (c .before .before .if2 .left)) in omega (arith, q)
+    let q = one-less (s .args .m .now) (s .args .left .now) (l .left) (s .args .way .now) (s .args .wants .now) (s .args .stack .now) (l .x)
+    (s .args .at .p) (l .low) (s .args .at .depth) (s .args .at .top) (l .inv) (k .last .1 .0) (k .result .word) (k .result .right) (k .ensures) t
+    (c .before .before .before .is-rule .result) (c .before .before .before .is-rule .ensures) (not-false _ (c .before .before .if2 .left)) in omega (arith, q)
 
 loop-again : tie.Need-loop-again Inv-loop μ-loop
 loop-again c =
@@ -103,7 +123,11 @@ loop-again c =
     let l = c .before .before .before .before .before .before .before .before .before .before .loop in
     let s = c .before .before .before .before .before .before .before .before .before .before .before .before .before .before .before .before in
     let t = not-false _ (c .before .before .before .before .before .if1 .left) in
-    rules-on (s .args .m .now) (s .args .left .now) (l .left) (s .args .way .now) (s .args .wants .now) (s .args .stack .now) (l .x) (s .args .at .p) (l .low) (s .args .at .depth) (s .args .at .top) (l .inv) (k .last .1 .0) (k .result .word) (k .result .right) (k .ensures) t (c .before .before .before .is-rule .result) (c .before .before .before .is-rule .ensures) (not-false _ (c .before .before .if2 .left)) (c .before .next-of .result) (c .before .before .before .before .cell-of .result) (k .kept .1 .0) (c .before .before .before .before .cell-of .ensures) (c .before .next-of .ensures) (c .if3 .left)
+    rules-on (s .args .m .now) (s .args .left .now) (l .left) (s .args .way .now) (s .args .wants .now) (s .args .stack .now) (l .x) (s .args .at .p)
+    (l .low) (s .args .at .depth) (s .args .at .top) (l .inv) (k .last .1 .0) (k .result .word) (k .result .right) (k .ensures) t
+    (c .before .before .before .is-rule .result) (c .before .before .before .is-rule .ensures) (not-false _ (c .before .before .if2 .left))
+    (c .before .next-of .result) (c .before .before .before .before .cell-of .result) (k .kept .1 .0)
+    (c .before .before .before .before .cell-of .ensures) (c .before .next-of .ensures) (c .if3 .left)
 
 pub rules-spec : {M : Type 1} → statement M
 rules-spec =

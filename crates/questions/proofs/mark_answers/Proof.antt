@@ -108,7 +108,8 @@ after-root = seq (assign (place 7 []) (aggregate (int w16 0 ∷ int w16 0 ∷ in
     (seq (assign (place 13 []) (aggregate (copy (place 12 []) ∷ copy (place 5 (field 1 ∷ [])) ∷ [])))
     (seq (assign (place 14 []) (addrOf (place 8 [])))
     (seq (assign (place 15 []) (aggregate (copy (place 14 []) ∷ int w64 36 ∷ [])))
-    (seq (call #questions·search (copy (place 1 []) ∷ copy (place 2 []) ∷ copy (place 3 []) ∷ copy (place 4 []) ∷ copy (place 13 []) ∷ copy (place 15 []) ∷ []) (place 11 []))
+    (seq (call #questions·search (copy (place 1 []) ∷ copy (place 2 []) ∷ copy (place 3 []) ∷ copy (place 4 []) ∷ copy (place 13 []) ∷ copy
+    (place 15 []) ∷ []) (place 11 []))
     (seq (assign (place 0 []) (rvOpd opdUnit)) return))))))))))
 
 abbrev stayed : Stays (marks′.ended .signature .params) (marks′.ended .kept)
@@ -252,7 +253,8 @@ module _ {M : Type 1} (𝓤 : URA M) (H : Heap 𝓤) (A : Atoms 𝓤) (W : Given
       lastly fs = ‵ (lasts search′.ended (κ₀, (κ₁, (κ₂, (α ∷ [], tt)))) sargs fs) ⊛ raw (fact 𝓤 (Searched fq fr (m .now) (qu .now) ms (fs .1 .1 .1 .1 .0)))
 
       abbrev given-back : Val → Unit {0} → Item 𝓤
-      given-back w u = (tokens ⊛ ‵ (unit .own u (w ∷ []))) ⊛ raw (ensured 𝓤 H A search′.ended (search′.clauses 𝓤 H A at-mem run) (κ₀, (κ₁, (κ₂, (α ∷ [], tt)))) sargs tt u)
+      given-back w u = (tokens ⊛ ‵ (unit .own u (w ∷ []))) ⊛ raw
+          (ensured 𝓤 H A search′.ended (search′.clauses 𝓤 H A at-mem run) (κ₀, (κ₁, (κ₂, (α ∷ [], tt)))) sargs tt u)
 
     -- the locals once the root is in its own
     abbrev With-root : Point → List (Item 𝓤) → List (Item 𝓤)
@@ -288,8 +290,10 @@ module _ {M : Type 1} (𝓤 : URA M) (H : Heap 𝓤) (A : Atoms 𝓤) (W : Given
         (lends-slice 𝓤 H A W R (named 3) (α ∷ []) (xs r) l₈ 0 (lit< tt, lit< tt)) $ await ! tt $ pick ! (λ γ.
         split ! $ move ! (4 ∷ []) $ shared-twice ! (named 0) κ₀ u64 m (vm ∷ []) $
         move ! (37 ∷ []) $ shared-twice ! (named 1) κ₁ u16 qu (vq ∷ []) $
-        nothing ! $ move ! (5 ∷ 0 ∷ []) $ fjoin ! $ move ! (40 ∷ 0 ∷ []) $ fjoin ! $ move ! (1 ∷ 0 ∷ []) $ fjoin ! $ flag-owned ! fr $ fjoin ! $ flag-owned ! fq $ fjoin ! $
-        move ! (2 ∷ 0 ∷ []) $ fjoin ! $ nothing ! $ move ! (5 ∷ 0 ∷ []) $ join ! $ move ! (38 ∷ 0 ∷ []) $ join ! $ move ! (37 ∷ 0 ∷ []) $ join ! $ move ! (5 ∷ 0 ∷ []) $ join ! $
+        nothing ! $ move ! (5 ∷ 0 ∷ []) $ fjoin ! $ move ! (40 ∷ 0 ∷ []) $ fjoin ! $ move ! (1 ∷ 0 ∷ []) $ fjoin ! $ flag-owned ! fr $ fjoin !
+        $ flag-owned ! fq $ fjoin ! $
+        move ! (2 ∷ 0 ∷ []) $ fjoin ! $ nothing ! $ move ! (5 ∷ 0 ∷ []) $ join ! $ move ! (38 ∷ 0 ∷ []) $ join ! $ move ! (37 ∷ 0 ∷ []) $ join !
+        $ move ! (5 ∷ 0 ∷ []) $ join ! $
         use2 W (raw (Searches .pre (to r α γ))) (asked r α γ is-root) $
         calls-at ! (fmOf 𝓤 H (W .laws) 𝓣) Searches known (to r α γ)
         (pass ! 31 refl (pass ! 29 refl (pass ! 27 refl (pass ! 25 refl (pass ! 8 refl (pass ! 4 refl (no-more !))))))) (λ w.
@@ -307,7 +311,8 @@ module _ {M : Type 1} (𝓤 : URA M) (H : Heap 𝓤) (A : Atoms 𝓤) (W : Given
         assigns ! (of-opd ! (unit-lit !)) (slot !) (init ! 36 refl (tt, tt)) $ returns ! (look ! 36 refl) $
         forget ! 36 refl $ forget ! 34 refl $ forget ! 32 refl $ forget ! 30 refl $ forget ! 28 refl $ forget ! 26 refl $ forget ! 24 refl $ forget ! 22 refl $
         forget ! 19 refl $ forget ! 17 refl $ forget ! 15 refl $ forget ! 13 refl $ forget ! 11 refl $ forget ! 9 refl $ forget ! 7 refl $
-        move ! (36 ∷ 37 ∷ 34 ∷ 35 ∷ 32 ∷ 33 ∷ 30 ∷ 31 ∷ 28 ∷ 29 ∷ 26 ∷ 27 ∷ 24 ∷ 25 ∷ 22 ∷ 23 ∷ 0 ∷ 21 ∷ 19 ∷ 20 ∷ 17 ∷ 18 ∷ 15 ∷ 16 ∷ 13 ∷ 14 ∷ 11 ∷ 12 ∷ 9 ∷ 10 ∷ 7 ∷ 8 ∷ []) $
+        move ! (36 ∷ 37 ∷ 34 ∷ 35 ∷ 32 ∷ 33 ∷ 30 ∷ 31 ∷ 28 ∷ 29 ∷ 26 ∷ 27 ∷ 24 ∷ 25 ∷ 22 ∷ 23 ∷ 0 ∷ 21 ∷ 19 ∷ 20 ∷ 17 ∷ 18 ∷ 15 ∷ 16 ∷ 13 ∷ 14 ∷ 11 ∷
+        12 ∷ 9 ∷ 10 ∷ 7 ∷ 8 ∷ []) $
         frees-all ! [] refl $ move ! (3 ∷ 0 ∷ 5 ∷ 2 ∷ 4 ∷ 1 ∷ []) $ by ! (exits (fs .1 .1 .1 .1 .0) ek found)))))))))))))
 
     abbrev Had : List (Item 𝓤)
@@ -318,12 +323,14 @@ module _ {M : Type 1} (𝓤 : URA M) (H : Heap 𝓤) (A : Atoms 𝓤) (W : Given
         move ! (32 ∷ []) $ shared-twice ! (named 0) κ₀ u64 m (vm ∷ []) $ nothing ! $ move ! (1 ∷ 0 ∷ []) $ fjoin ! $ nothing ! $ move ! (35 ∷ 0 ∷ []) $ join ! $
         use2 W (raw (Root .pre toR)) asked-root $
         calls-at ! (fmOf 𝓤 H (W .laws) 𝓣) Root known-root toR (pass ! 30 refl (no-more !)) (λ w.
-        use1 W (later (some (λ (r : Point). ((‵ (flft κ₀ q₀) ⊛ ‵ ftrue) ⊛ ‵ (R .own r (w ∷ []))) ⊛ raw (ensured 𝓤 H A root.ended (root.clauses 𝓤 H A at-mem run) (κ₀, tt) (m, tt) tt r))))
+        use1 W (later (some (λ (r : Point). ((‵ (flft κ₀ q₀) ⊛ ‵ ftrue) ⊛ ‵ (R .own r (w ∷ []))) ⊛ raw
+        (ensured 𝓤 H A root.ended (root.clauses 𝓤 H A at-mem run) (κ₀, tt) (m, tt) tt r))))
         (id⊢ 𝓤 _) $ await ! tt $ pick ! (λ r.
         split ! $ move ! (1 ∷ []) $ use1 W (raw (fact 𝓤 (IsRoot (m .now) r))) (said r) $ heard ! (IsRoot (m .now) r) (λ is-root. split ! $ move ! (1 ∷ []) $
         peeks ! R (Is R) (shows 𝓤 H A R) r (w ∷ []) (λ is.
         land ! (slot !) (init ! 21 refl (point-fits 𝓤 H A W r is)) $
-        rewrite ! 21 (λ (u : Val). ‵ (fat fullShare T′.mir l₆ 0 u)) (ap only (LL.tells T.the-type T′.the-laws r _ is)) refl $ drop ! $ split ! $ move ! (1 ∷ []) $ drop ! $
+        rewrite ! 21 (λ (u : Val). ‵ (fat fullShare T′.mir l₆ 0 u)) (ap only (LL.tells T.the-type T′.the-laws r _ is)) refl $ drop ! $ split !
+        $ move ! (1 ∷ []) $ drop ! $
         lends r is-root (subst (Is R r) (LL.tells T.the-type T′.the-laws r _ is) is)))))
 
     passing : Seq (Go {0}) W (fresh En Had) (params′ En args (runs (𝓣 .C) (𝓣 .Λ) En (code.function .body) (atRet En Post)))
@@ -380,7 +387,8 @@ module _ {M : Type 1} (𝓤 : URA M) (H : Heap 𝓤) (A : Atoms 𝓤) (W : Given
       let qu = a .1 .1 .1 .0 in
       let marks = a .1 .1 .1 .1 .0 in
       needs (Passing (a .0 .now)) (IsTerm (qu .now)) (NumberSet (marks .now)) _ (λ pass whole is-set.
-      walk 𝓤 H A W at-mem run (κs .0) (κs .1 .0) (κs .1 .1 .0) (qs .0) (qs .1 .0) (qs .1 .1 .0) (a .0) (a .1 .0) (a .1 .1 .0) qu (marks .ptr .0) (marks .ptr .1) (marks .name) (marks .now)
+      walk 𝓤 H A W at-mem run (κs .0) (κs .1 .0) (κs .1 .1 .0) (qs .0) (qs .1 .0) (qs .1 .1 .0) (a .0) (a .1 .0) (a .1 .1 .0) qu (marks .ptr .0)
+      (marks .ptr .1) (marks .name) (marks .now)
       (are .0 .0 .1) (are .1 .1 .1 .0 .0 .1) (are .1 .1 .1 .1 .0 .0 .1) pass whole is-set 𝓣 known-root known))
 
   marks-meets : Meets 𝓤 H A marks′.signature Runs (marks′.spec 𝓤 H A at-mem run)

@@ -112,7 +112,8 @@ round = seq (assign (place 11 []) (op2 (lt unsigned) (int w64 0) (copy (place 7 
     (seq (assign (place 9 []) (rvOpd (copy (place 14 []))))
     (seq (assign (place 15 []) (addrOf (place 5 (field 0 ∷ deref word ∷ []))))
     (seq (assign (place 16 []) (aggregate (copy (place 15 []) ∷ copy (place 5 (field 1 ∷ [])) ∷ [])))
-    (seq (call #turn (copy (place 1 []) ∷ copy (place 2 []) ∷ copy (place 3 []) ∷ copy (place 4 []) ∷ copy (place 16 []) ∷ copy (place 9 []) ∷ copy (place 7 []) ∷ []) (place 10 []))
+    (seq (call #turn (copy (place 1 []) ∷ copy (place 2 []) ∷ copy (place 3 []) ∷ copy (place 4 []) ∷ copy (place 16 []) ∷ copy (place 9 []) ∷ copy
+    (place 7 []) ∷ []) (place 10 []))
     (seq (assign (place 12 []) (op2 (mul unsigned) (copy (place 8 [])) (int w64 6)))
     (seq (assign (place 17 []) (op2 offset (copy (place 6 (field 0 ∷ []))) (copy (place 12 []))))
     (seq (assign (place 17 (deref T′.mir ∷ [])) (rvOpd (copy (place 10 (field 0 ∷ [])))))
@@ -148,7 +149,8 @@ abbrev Turns : {M : Type 1} (𝓤 : URA M) (H : Heap 𝓤) (A : Atoms 𝓤) (at-
 Turns 𝓤 H A at-mem run = tripleOf 𝓤 H A turn.signature (turn.spec 𝓤 H A at-mem run)
 
 module _ {M : Type 1} (𝓤 : URA M) (H : Heap 𝓤) (A : Atoms 𝓤) (W : Given 𝓤 H A) (at-mem : Memory → SProp 𝓤) (run : Routine → Fun 𝓤)
-    (κ₀ κ₁ κ₂ κ₃ : Lft) (q₀ q₁ q₂ q₃ : Share) (m : RefT (List ℕ)) (fq fr : Bool) (qu : RefT (List ℕ)) (bk ok : ℕ) (γk : GName) (ms : List ℕ) (b o : ℕ) (γ : GName) (ys : List Point)
+    (κ₀ κ₁ κ₂ κ₃ : Lft) (q₀ q₁ q₂ q₃ : Share) (m : RefT (List ℕ)) (fq fr : Bool) (qu : RefT (List ℕ)) (bk ok : ℕ) (γk : GName) (ms : List ℕ) (b o : ℕ)
+    (γ : GName) (ys : List Point)
     (room-m : Room u64 (length (m .now))) (room-q : Room u16 (length (qu .now))) (room-k : Room u64 (length ms)) (room : Room R (length ys))
     (start : Loop fq fr (m .now) (qu .now) ms ms ys 1) where
   abbrev vm : Val
@@ -284,11 +286,13 @@ module _ {M : Type 1} (𝓤 : URA M) (H : Heap 𝓤) (A : Atoms 𝓤) (W : Given
 
     -- what no turn touches
     abbrev Frame : List (Item 𝓤)
-    Frame = empty Made (holding Params args (‵ (froom tyUnit l₀ 0) ∷ ‵ (fobor κ₃ q₃ (Held R (length ys) b o γ)) ∷ ‵ (List-is ys) ∷ ‵ (fauth γ (codedHoleys R .code (heres R ys))) ∷ dying En []))
+    Frame = empty Made (holding Params args
+        (‵ (froom tyUnit l₀ 0) ∷ ‵ (fobor κ₃ q₃ (Held R (length ys) b o γ)) ∷ ‵ (List-is ys) ∷ ‵ (fauth γ (codedHoleys R .code (heres R ys))) ∷ dying En []))
 
     -- the list is zs, the marks are ns, and so many points stand
     abbrev At : List ℕ → List Point → ℕ → List (Item 𝓤)
-    At ns zs depth = ‵ (row R fullShare zs b o) ∷ ‵ (Ok ns (length ns)) ∷ ‵ (flft κ₂ q₂) ∷ ‵ Om ∷ ‵ (flft κ₀ q₀) ∷ ‵ Oq ∷ ‵ (flft κ₁ q₁) ∷ ‵ (fat fullShare word l₇ 0 (vint w64 depth)) ∷ Frame
+    At ns zs depth = ‵ (row R fullShare zs b o) ∷ ‵ (Ok ns (length ns)) ∷ ‵ (flft κ₂ q₂) ∷ ‵ Om ∷ ‵ (flft κ₀ q₀) ∷ ‵ Oq ∷ ‵ (flft κ₁ q₁) ∷ ‵
+        (fat fullShare word l₇ 0 (vint w64 depth)) ∷ Frame
 
     abbrev Facts : ℕ → List ℕ → List Point → ℕ → Type 0
     Facts t ns zs depth = (left (m .now) zs depth ≡ t) × Loop fq fr (m .now) (qu .now) ms ns zs depth
@@ -323,7 +327,8 @@ module _ {M : Type 1} (𝓤 : URA M) (H : Heap 𝓤) (A : Atoms 𝓤) (W : Given
 
       -- a turn
       more : 0 < depth → depth ≤ 34 → length zs ≡ 36
-          → ((ns′ : List ℕ) (r : Points) → length ns′ ≡ length ns → Went fq fr (m .now) (qu .now) ns ns′ p depth r → ent 𝓤 (⋆ 𝓤 H A (At ns′ (stored zs depth r) (r .depth))) X)
+          → ((ns′ : List ℕ) (r : Points) → length ns′
+          ≡ length ns → Went fq fr (m .now) (qu .now) ns ns′ p depth r → ent 𝓤 (⋆ 𝓤 H A (At ns′ (stored zs depth r) (r .depth))) X)
           → ent 𝓤 (⋆ 𝓤 H A (At ns zs depth)) (Wp 𝓤 H C Λ En round (afterTurn 𝓤 H X Left))
       unfolding afterTurn
       more pos deep long go =
@@ -370,7 +375,8 @@ module _ {M : Type 1} (𝓤 : URA M) (H : Heap 𝓤) (A : Atoms 𝓤) (W : Given
           use1 W (later (some (λ (r : Points). given-back ns p depth ν δ w r))) (id⊢ 𝓤 _) $ await ! tt $ pick ! (λ r.
           split ! $ move ! (1 ∷ []) $ use1 W (some (λ fs. lastly ns p depth ν δ fs r)) (id⊢ 𝓤 _) $ pick ! (λ fs.
           split ! $ move ! (1 ∷ []) $ heard ! (Went fq fr (m .now) (qu .now) ns (fs .1 .1 .1 .1 .0) p depth r) (λ e.
-          fsplit ! $ drop ! $ fsplit ! $ drop ! $ fsplit ! $ drop ! $ fsplit ! $ drop ! $ fsplit ! $ fsplit ! $ move ! (1 ∷ []) $ feqL ! (λ len. move ! (1 ∷ []) $ drop ! $
+          fsplit ! $ drop ! $ fsplit ! $ drop ! $ fsplit ! $ drop ! $ fsplit ! $ drop ! $ fsplit ! $ fsplit ! $ move ! (1 ∷ [])
+          $ feqL ! (λ len. move ! (1 ∷ []) $ drop ! $
           -- [the last marks; the tokens and the result; question; m; kept; row; _7; …]
           move ! (1 ∷ []) $ split ! $ move ! (1 ∷ []) $ peeks ! P.the-row (Is P.the-row) (shows 𝓤 H A P.the-row) r (w ∷ []) (λ is.
           land ! (slot !) (init ! 10 refl (LL.lawful P.the-type P′.the-laws 𝓤 H A W .typed r _ is .0)) $

@@ -11,13 +11,15 @@ short : tie.Need-returns-4
 short c e ks row kept low deep =
     let s = c .before .before .before .before .before .before .before .before .before .before in
     let z = c .before .before .before .before .before in
-    plain-short (s .args .words .now) (s .args .way .now) ks row (s .args .depth) kept low deep (z .before .before .if1 .left) (z .before .six .ensures (z .if2 .left)) (c .before .before .before .if3 .taken) (c .before .if4 .left) (eqb-true _ _ e)
+    plain-short (s .args .words .now) (s .args .way .now) ks row (s .args .depth) kept low deep (z .before .before .if1 .left)
+    (z .before .six .ensures (z .if2 .left)) (c .before .before .before .if3 .taken) (c .before .if4 .left) (eqb-true _ _ e)
 
 long : tie.Need-returns-6
 long c e ks row kept low deep =
     let s = c .before .before .before .before .before .before .before .before .before .before .before in
     let z = c .before .before .before .before .before .before in
-    plain-long (s .args .words .now) (s .args .way .now) ks row (s .args .depth) kept low deep (z .before .before .if1 .left) (z .before .six .ensures (z .if2 .left)) (c .before .before .before .before .if3 .left) (c .before .if5 .left) (eqb-true _ _ e)
+    plain-long (s .args .words .now) (s .args .way .now) ks row (s .args .depth) kept low deep (z .before .before .if1 .left)
+    (z .before .six .ensures (z .if2 .left)) (c .before .before .before .before .if3 .left) (c .before .if5 .left) (eqb-true _ _ e)
 
 pub is-plain-spec : {M : Type 1} → statement M
 is-plain-spec =

@@ -14,7 +14,8 @@ use Rattle.book.proofs.size_of.Reads as size-of-reads
 use Rattle.recorded.proofs.is_record.Reads as is-record-reads
 
 returns : tie.Need-returns
-returns c = let s = c .before .before .before in rule-high (s .args .m .now) (s .args .way .now) (s .args .r) (s .args .depth) (s .pre .0 .2) (s .args .number) (s .pre .1) (c .if1 .taken)
+returns c = let s = c .before .before .before in rule-high (s .args .m .now) (s .args .way .now) (s .args .r) (s .args .depth) (s .pre .0 .2)
+    (s .args .number) (s .pre .1) (c .if1 .taken)
 
 sub-field : tie.Need-sub-field
 sub-field c = search needs
@@ -32,7 +33,10 @@ size-of-requires : tie.Need-size-of-requires
 size-of-requires c κs = search needs
 
 returns-2 : tie.Need-returns-2
-returns-2 c = let s = c .before .before .before .before .before .before .before in let p = c .before .size-of in rule-lost (s .args .m .now) (s .args .way .now) (s .args .r) (s .args .depth) (s .pre .0 .2) (s .args .number) (s .pre .1) (p .result) (p .ensures ∙ c .before .before .field .ensures) (c .if2 .taken)
+returns-2 c =
+    let s = c .before .before .before .before .before .before .before in
+    let p = c .before .size-of in rule-lost (s .args .m .now) (s .args .way .now) (s .args .r) (s .args .depth) (s .pre .0 .2) (s .args .number)
+    (s .pre .1) (p .result) (p .ensures ∙ c .before .before .field .ensures) (c .if2 .taken)
 
 mul-at : tie.Need-mul-at
 mul-at c = search needs
@@ -53,7 +57,8 @@ shared-slice-read-if3 : tie.Need-shared-slice-read-if3
 shared-slice-read-if3 c = search needs
 
 returns-3 : tie.Need-returns-3
-returns-3 c = let s = c .before .before .before .before .before .before .before .before .before in rule-long (s .args .m .now) (s .args .way .now) (s .args .r) (s .args .depth) (s .pre .0 .2) (s .args .number) (s .pre .1) (c .if3 .taken)
+returns-3 c = let s = c .before .before .before .before .before .before .before .before .before in rule-long (s .args .m .now) (s .args .way .now)
+    (s .args .r) (s .args .depth) (s .pre .0 .2) (s .args .number) (s .pre .1) (c .if3 .taken)
 
 mul-is-record : tie.Need-mul-is-record
 mul-is-record c = search needs
@@ -74,7 +79,11 @@ returns-4 : tie.Need-returns-4
 returns-4 c =
     let s = c .before .before .before .before .before .before .before .before .before .before .before in
     let p = c .before .before .before .before .before .size-of in
-    rule-is (s .args .m .now) (s .args .way .now) (s .args .r) (s .args .depth) (s .pre .0 .2) (s .args .number) (s .pre .1) (c .before .before .before .before .before .before .before .before .if1 .left) (p .result) (p .ensures ∙ c .before .before .before .before .before .before .field .ensures) (c .before .before .before .before .if2 .left) (c .before .before .if3 .left) (termsAt + recordWords * s .args .r + 8 - (termsAt + recordWords * s .args .r)) (omega arith) (c .is-record .result) (c .is-record .ensures)
+    rule-is (s .args .m .now) (s .args .way .now) (s .args .r) (s .args .depth) (s .pre .0 .2) (s .args .number) (s .pre .1)
+    (c .before .before .before .before .before .before .before .before .if1 .left) (p .result)
+    (p .ensures ∙ c .before .before .before .before .before .before .field .ensures) (c .before .before .before .before .if2 .left)
+    (c .before .before .if3 .left) (termsAt + recordWords * s .args .r + 8 - (termsAt + recordWords * s .args .r)) (omega arith)
+    (c .is-record .result) (c .is-record .ensures)
 
 pub is-rule-spec : {M : Type 1} → statement M
 is-rule-spec =

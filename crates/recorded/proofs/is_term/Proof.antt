@@ -15,7 +15,9 @@ zeros-from-requires : tie.Need-zeros-from-requires
 zeros-from-requires c κs = search needs
 
 returns : tie.Need-returns
-returns c = let s = c .before .before .before .before in let z = c .before .zeros-from in not-clean (s .args .words .now) (s .args .way .now) (s .args .depth) (z .result) (z .ensures .no) (not-true _ (c .if1 .taken))
+returns c =
+    let s = c .before .before .before .before in
+    let z = c .before .zeros-from in not-clean (s .args .words .now) (s .args .way .now) (s .args .depth) (z .result) (z .ensures .no) (not-true _ (c .if1 .taken))
 
 load-term-requires : tie.Need-load-term-requires
 load-term-requires c κs = let s = c .before .before .before .before in (s .pre .0, (s .pre .2, c .before .zeros-from .ensures .yes (not-false _ (c .if1 .left))))
@@ -27,7 +29,11 @@ is-whole-requires : tie.Need-is-whole-requires
 is-whole-requires c κs = search needs
 
 returns-2 : tie.Need-returns-2
-returns-2 c = let s = c .before .before .before .before .before .before .before .before in let w = c .before .is-whole in let l = c .before .before .before .load-term in not-whole (s .args .words .now) (s .args .way .now) (s .args .depth) (l .result) (l .ensures) (w .result) (w .ensures) (not-true _ (c .if2 .taken))
+returns-2 c =
+    let s = c .before .before .before .before .before .before .before .before in
+    let w = c .before .is-whole in
+    let l = c .before .before .before .load-term in not-whole (s .args .words .now) (s .args .way .now) (s .args .depth) (l .result) (l .ensures)
+    (w .result) (w .ensures) (not-true _ (c .if2 .taken))
 
 slice-aggregate-same-blanks : tie.Need-slice-aggregate-same-blanks
 slice-aggregate-same-blanks c = search needs
@@ -40,7 +46,10 @@ returns-3 c =
     let s = c .before .before .before .before .before .before .before .before .before .before in
     let w = c .before .before .before .is-whole in
     let l = c .before .before .before .before .before .load-term in
-    is-term (s .args .words .now) (s .args .way .now) (s .args .depth) (l .result) (l .ensures) (c .before .before .before .before .before .before .before .zeros-from .ensures .yes (not-false _ (c .before .before .before .before .before .before .if1 .left))) (w .result) (w .ensures) (not-false _ (c .before .before .if2 .left)) (c .same-blanks .result) (c .same-blanks .ensures)
+    is-term (s .args .words .now) (s .args .way .now) (s .args .depth) (l .result) (l .ensures)
+    (c .before .before .before .before .before .before .before .zeros-from .ensures .yes
+    (not-false _ (c .before .before .before .before .before .before .if1 .left))) (w .result) (w .ensures)
+    (not-false _ (c .before .before .if2 .left)) (c .same-blanks .result) (c .same-blanks .ensures)
 
 pub is-term-spec : {M : Type 1} → statement M
 is-term-spec =

@@ -43,7 +43,11 @@ blank-requires-2 : tie.Need-blank-requires-2 Inv-loop μ-loop
 blank-requires-2 c κs = search needs
 
 returns : tie.Need-returns Inv-loop μ-loop
-returns c = let l = c .before .before .before .before .before .before .loop in let s = c .before .before .before .before .before .before .before .before .before in same-not (s .args .cells .now) (s .args .way .now) (s .args .depth) (l .i) (c .before .before .blank .result) (c .before .blank2 .result) (c .before .before .before .before .before .loop-test .taken) (c .before .before .blank .ensures) (c .before .blank2 .ensures) (c .if1 .taken)
+returns c =
+    let l = c .before .before .before .before .before .before .loop in
+    let s = c .before .before .before .before .before .before .before .before .before in same-not (s .args .cells .now) (s .args .way .now)
+    (s .args .depth) (l .i) (c .before .before .blank .result) (c .before .blank2 .result)
+    (c .before .before .before .before .before .loop-test .taken) (c .before .before .blank .ensures) (c .before .blank2 .ensures) (c .if1 .taken)
 
 add-i : tie.Need-add-i Inv-loop μ-loop
 add-i c = search needs
@@ -52,10 +56,19 @@ loop-less : tie.Need-loop-less Inv-loop μ-loop
 loop-less c = search needs
 
 loop-again : tie.Need-loop-again Inv-loop μ-loop
-loop-again c = let l = c .before .before .before .before .before .before .loop in let s = c .before .before .before .before .before .before .before .before .before in (omega (arith, s .pre .2, c .before .before .before .before .before .loop-test .taken), same-on (s .args .cells .now) (s .args .way .now) (l .i) (c .before .before .blank .result) (c .before .blank2 .result) (l .inv .1) (c .before .before .blank .ensures) (c .before .blank2 .ensures) (c .if1 .left))
+loop-again c =
+    let l = c .before .before .before .before .before .before .loop in
+    let s = c .before .before .before .before .before .before .before .before .before in (
+      omega
+          (arith, s .pre .2, c .before .before .before .before .before .loop-test .taken),
+      same-on (s .args .cells .now) (s .args .way .now) (l .i)
+          (c .before .before .blank .result) (c .before .blank2 .result) (l .inv .1) (c .before .before .blank .ensures) (c .before .blank2 .ensures) (c .if1 .left),
+    )
 
 returns-2 : tie.Need-returns-2 Inv-loop μ-loop
-returns-2 c = let l = c .before .loop in let s = c .before .before .before .before in same-all (s .args .cells .now) (s .args .way .now) (s .args .depth) (l .i) (c .loop-test .left) (l .inv .1)
+returns-2 c =
+    let l = c .before .loop in
+    let s = c .before .before .before .before in same-all (s .args .cells .now) (s .args .way .now) (s .args .depth) (l .i) (c .loop-test .left) (l .inv .1)
 
 pub same-blanks-spec : {M : Type 1} → statement M
 same-blanks-spec =

@@ -23,7 +23,8 @@ module _ (g : tie.After-get-link) where
 returns : tie.Need-returns
 returns c =
     let s = c .before .before .before in
-    none-comes (s .args .m .now) (s .args .p) (s .args .b) (s .args .c) (c .before .get-link .result) (s .pre .0) (s .pre .1) (c .before .get-link .ensures) (c .if1 .taken)
+    none-comes (s .args .m .now) (s .args .p) (s .args .b) (s .args .c) (c .before .get-link .result) (s .pre .0) (s .pre .1)
+    (c .before .get-link .ensures) (c .if1 .taken)
 
 returns-2 : tie.Need-returns-2
 returns-2 c =

@@ -45,7 +45,8 @@ returns c =
     let test = c₁ .before .before .loop-test in
     let l = c₁ .before .before .before .loop in
     let s = c₁ .before .before .before .before .before .before .before in (
-      descend-stop (s .args .m .now) (s .args .form .now) (s .pre .0) (l .l) (l .i) (l .inv) (test .taken) (wide .result) (wide .ensures) (w .result) (c .if1 .taken) (w .ensures),
+      descend-stop (s .args .m .now) (s .args .form .now) (s .pre .0) (l .l) (l .i) (l .inv) (test .taken) (wide .result) (wide .ensures) (w .result)
+          (c .if1 .taken) (w .ensures),
       descend-next (s .args .m .now) (s .args .form .now) (s .pre .0) (l .l) (l .i) (l .inv) (test .taken) (wide .result) (wide .ensures) (find .result) (find .ensures),
     )
 

@@ -17,8 +17,14 @@ abbrev μ-loop : tie.MeasureT-loop
 
 get-link-requires : tie.Need-get-link-requires Inv-loop μ-loop
 get-link-requires c κs =
-    let s = c .before in
-    (s .pre .0 .size, (live-low (s .args .m .now) (s .pre .0 .size) (s .args .p) (s .pre .0 .live), hook-low (s .args .m .now) (s .pre .0 .size) (s .args .p) (s .args .from) (s .pre .1 .valid)))
+    let s = c .before in (
+      s .pre .0 .size,
+      (
+        live-low (s .args .m .now) (s .pre .0 .size) (s .args .p) (s .pre .0 .live),
+        hook-low (s .args .m .now) (s .pre .0 .size)
+            (s .args .p) (s .args .from) (s .pre .1 .valid),
+      ),
+    )
 
 loop-holds : tie.Need-loop-holds Inv-loop μ-loop
 loop-holds c =

@@ -33,7 +33,8 @@ link-requires c κs =
     let wide = c .before .before .before .before .wide in
     let l = c .before .before .before .before .before .before .before .loop in
     let s = c .before .before .before .before .before .before .before .before .before .before in
-    chain-room (s .args .m .now) (l .m) (s .args .l) (l .at) (l .behind) (s .args .form .now) (l .i) (l .inv .0) (c .before .before .before .before .before .before .loop-test .taken)
+    chain-room (s .args .m .now) (l .m) (s .args .l) (l .at) (l .behind) (s .args .form .now) (l .i) (l .inv .0)
+    (c .before .before .before .before .before .before .loop-test .taken)
     (lowest .result) (lowest .ensures) (wide .result) (wide .ensures)
     (omega (arith, wide .ensures, c .before .before .before .before .before .shared-slice-known2 .given (l .i) .fits))
 
@@ -42,7 +43,8 @@ add-at c =
     let lowest = c .before .before .before .before .lowest-free-from in
     let l = c .before .before .before .before .before .before .before .before .before .before .loop in
     let s = c .before .before .before .before .before .before .before .before .before .before .before .before .before in
-    let low = chain-low (s .args .m .now) (l .m) (s .args .l) (l .at) (l .behind) (s .args .form .now) (l .i) (l .inv .0) (c .before .before .before .before .before .before .before .before .before .loop-test .taken) (lowest .result) in
+    let low = chain-low (s .args .m .now) (l .m) (s .args .l) (l .at) (l .behind) (s .args .form .now) (l .i) (l .inv .0)
+    (c .before .before .before .before .before .before .before .before .before .loop-test .taken) (lowest .result) in
     omega (arith, low (lowest .ensures))
 
 loop-again : tie.Need-loop-again Inv-loop μ-loop
@@ -53,8 +55,10 @@ loop-again c =
     let l = c .before .before .before .before .before .before .before .before .before .before .loop in
     let s = c .before .before .before .before .before .before .before .before .before .before .before .before .before in
     let same : length (link .last .0) ≡ length (l .m) = search needs in
-    let low = chain-low (s .args .m .now) (l .m) (s .args .l) (l .at) (l .behind) (s .args .form .now) (l .i) (l .inv .0) (c .before .before .before .before .before .before .before .before .before .loop-test .taken) (lowest .result) in (
-      chain-on (s .args .m .now) (l .m) (s .args .l) (l .at) (l .behind) (s .args .form .now) (l .i) (l .inv .0) (c .before .before .before .before .before .before .before .before .before .loop-test .taken)
+    let low = chain-low (s .args .m .now) (l .m) (s .args .l) (l .at) (l .behind) (s .args .form .now) (l .i) (l .inv .0)
+    (c .before .before .before .before .before .before .before .before .before .loop-test .taken) (lowest .result) in (
+      chain-on (s .args .m .now) (l .m) (s .args .l) (l .at) (l .behind) (s .args .form .now) (l .i) (l .inv .0)
+          (c .before .before .before .before .before .before .before .before .before .loop-test .taken)
           (lowest .result) (lowest .ensures) (wide .result) (wide .ensures)
           (link .last .0) same (link .ensures),
       full-on (l .m) (link .last .0) (l .inv .0 .growing .size) (lowest .result) (lowest .ensures) (low (lowest .ensures)) (link .ensures),

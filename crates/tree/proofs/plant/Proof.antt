@@ -11,13 +11,15 @@ returns : tie.Need-returns
 returns c =
     let s = c .before .before .before .before .before in
     let d = s .args .d in
-    plant-full (s .args .m .now) (s .args .form .now) (s .pre .0) (d .link) (d .depth) (s .pre .1 .1 .1 .0) (c .before .has-nodes .ensures .1 (told-no refl (c .if1 .taken)))
+    plant-full (s .args .m .now) (s .args .form .now) (s .pre .0) (d .link) (d .depth) (s .pre .1 .1 .1 .0)
+    (c .before .has-nodes .ensures .1 (told-no refl (c .if1 .taken)))
 
 grow-requires : tie.Need-grow-requires
 grow-requires c κs =
     let s = c .before .before .before .before .before .before .before in
     let d = s .args .d in
-    plant-growing (s .args .m .now) (s .args .form .now) (s .pre .0) (d .link) (d .depth) (s .pre .1 .1 .1 .0) (c .before .before .before .has-nodes .ensures .0 (told-yes refl (c .before .before .if1 .left)))
+    plant-growing (s .args .m .now) (s .args .form .now) (s .pre .0) (d .link) (d .depth) (s .pre .1 .1 .1 .0)
+    (c .before .before .before .has-nodes .ensures .0 (told-yes refl (c .before .before .if1 .left)))
     (d .behind) (s .pre .1 .1 .1 .1)
 
 returns-2 : tie.Need-returns-2
@@ -26,7 +28,9 @@ returns-2 c =
     let s = c .before .before .before .before .before .before .before .before .before .before in
     let d = s .args .d in
     plant-fits (s .args .m .now) (s .args .form .now) (s .pre .0) (d .link) (d .depth) (s .pre .1 .1 .1 .0)
-    (g .grow .last .0) (g .grow .result) (s .pre .1 .0) (c .before .before .before .before .before .before .has-nodes .ensures .0 (told-yes refl (c .before .before .before .before .before .if1 .left))) (g .grow .ensures)
+    (g .grow .last .0) (g .grow .result) (s .pre .1 .0)
+    (c .before .before .before .before .before .before .has-nodes .ensures .0
+    (told-yes refl (c .before .before .before .before .before .if1 .left))) (g .grow .ensures)
 
 pub plant-spec : {M : Type 1} → statement M
 plant-spec =

@@ -53,14 +53,17 @@ module _ (r : tie.After-mark-answers) where
 returns : tie.Need-returns
 returns c =
     let out = s (c .before .before .before .before .before) .args .out .now in
-    let h = ltb-false (length (numbers (has (marks (c .before .before .before .before .before))) 4096)) (length out) (sym (c .before .has-room .ensures) ∙ not-true _ (c .if1 .taken)) in
+    let h = ltb-false (length (numbers (has (marks (c .before .before .before .before .before))) 4096)) (length out)
+    (sym (c .before .has-room .ensures) ∙ not-true _ (c .if1 .taken)) in
     let t = s (c .before .before .before .before .before) in
     no-room (asks (rulesIn (t .args .book .now)) (mode (c .before .before .before .before .before)) (t .args .question .now) .answer) out
     (subst (λ (n : ℕ). length out ≤ n) (marked-many (c .before .before .before .before .before)) h)
 
 -- the list has room
-room : (e : tie.Else1) → length (numbers (has (marks (e .before .before .before .before .before))) 4096) < length (s (e .before .before .before .before .before) .args .out .now)
-room e = ltb-true (length (numbers (has (marks (e .before .before .before .before .before))) 4096)) (length (s (e .before .before .before .before .before) .args .out .now)) (sym (e .before .has-room .ensures) ∙ not-false _ (e .if1 .left))
+room : (e : tie.Else1)
+    → length (numbers (has (marks (e .before .before .before .before .before))) 4096) < length (s (e .before .before .before .before .before) .args .out .now)
+room e = ltb-true (length (numbers (has (marks (e .before .before .before .before .before))) 4096))
+    (length (s (e .before .before .before .before .before) .args .out .now)) (sym (e .before .has-room .ensures) ∙ not-false _ (e .if1 .left))
 
 list-requires : tie.Need-list-requires
 list-requires c κs =
@@ -86,7 +89,8 @@ module _ (c : tie.After-slice-known5) where
   put-long = same-len-mid 1 (length out - 1) out (c .before .before .list .last .1 .0) (c .before .before .list .kept .1 .0)
 
   count-is : c .before .before .list .result ≡ length (answers (mode a) (s a .args .question .now) (rulesIn (s a .args .book .now)))
-  count-is = as-many (s a .args .book .now) (s a .args .question .now) (marks a) (fq a) (fr a) (answering a) _ _ _ (c .before .before .list .ensures (rulesIn (s a .args .book .now)))
+  count-is = as-many (s a .args .book .now) (s a .args .question .now) (marks a) (fq a) (fr a) (answering a) _ _ _
+      (c .before .before .list .ensures (rulesIn (s a .args .book .now)))
 
   low : c .before .before .list .result ≤ 512
   low = let h = few a in omega (arith, count-is, marked-many a)
@@ -111,7 +115,8 @@ returns-2 c =
     let t = s (a c) in
     let m = count-is c in
     let n = c .before .before .list .result in
-    cells-then (asks (rulesIn (t .args .book .now)) (mode (a c)) (t .args .question .now) .answer) n (first n _ m) (out c) (c .before .before .list .last .1 .0) (length (out c) - 1) (n + 1)
+    cells-then (asks (rulesIn (t .args .book .now)) (mode (a c)) (t .args .question .now) .answer) n (first n _ m) (out c)
+    (c .before .before .list .last .1 .0) (length (out c) - 1) (n + 1)
     (subst (λ (k : ℕ). k < length (out c)) (marked-many (a c)) (room (c .before .before .before .before .before))) refl (ap (λ (j : ℕ). j + 1) m)
     (listed-are (t .args .book .now) (t .args .question .now) (marks (a c)) (fq (a c)) (fr (a c)) (answering (a c)) _ _ _
     (c .before .before .list .ensures (rulesIn (t .args .book .now))))

@@ -25,7 +25,9 @@ returns-2 c =
     let s = c .before .before .before .before .before .before .before .before .before .before .before .before in
     let out = s .args .out .now in
     let h = c .before .before .before .before .before .before .before .before .before .if1 .left in
-    remove-done (s .args .book .now) _ (s .args .number) (c .before .before .before .before .before .before .before .remove .result) (c .before .before .before .before .before .before .before .remove .ensures) (c .before .before .before .before .remove-refusal .result) out _ _ (omega arith) (c .before .before .before .before .remove-refusal .ensures) (c .before .before .put-bare .ensures)
+    remove-done (s .args .book .now) _ (s .args .number) (c .before .before .before .before .before .before .before .remove .result)
+    (c .before .before .before .before .before .before .before .remove .ensures) (c .before .before .before .before .remove-refusal .result) out _
+    _ (omega arith) (c .before .before .before .before .remove-refusal .ensures) (c .before .before .put-bare .ensures)
 
 pub remove-spec : {M : Type 1} → statement M
 remove-spec = tie.close (tie.spec returns (λ c κs. search needs) (λ c κs. search needs) put-bare-requires (λ c. search needs) (λ c. search needs) returns-2)

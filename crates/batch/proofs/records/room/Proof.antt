@@ -40,7 +40,8 @@ same-length c = simp length-set
 returns-2 : tie.Need-returns-2
 returns-2 c =
     let r = c .before .before .before in
-    two-written _ _ _ _ (c .before .before .before .before .before .before .args .out .now) (c .before .before .if1 .left) (r .room .ensures .rules-are) (r .room .ensures .nodes-are)
+    two-written _ _ _ _ (c .before .before .before .before .before .before .args .out .now) (c .before .before .if1 .left)
+    (r .room .ensures .rules-are) (r .room .ensures .nodes-are)
 
 pub room-spec : {M : Type 1} → statement M
 room-spec = tie.close (tie.spec (λ c κs. search needs) returns slice-write-out cast-out slice-write-out-2 cast-out-2 slice-write-out-3 same-length returns-2)

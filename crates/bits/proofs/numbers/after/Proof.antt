@@ -11,7 +11,8 @@ use Rattle.bits.proofs.numbers.after.Tie as tie
 returns : tie.Need-returns
 returns c =
     let s = c .before .before .before in
-    word-goes (s .args .map .now) (s .pre .0) (s .args .at) (s .args .rest) (s .pre .1 .0 .0) (s .pre .1 .0 .1) (s .pre .1 .1) _ _ (c .before .if1 .taken) (c .first .ensures)
+    word-goes (s .args .map .now) (s .pre .0) (s .args .at) (s .args .rest) (s .pre .1 .0 .0) (s .pre .1 .0 .1) (s .pre .1 .1) _ _
+    (c .before .if1 .taken) (c .first .ensures)
 
 -- the next number is in the same word
 in-same : (k : tie.Else1) → k .before .before .args .at % 64 + 1 + leadingZeros 64 ((k .before .before .args .rest * 2 ^ 1) % 2 ^ 64) < 64

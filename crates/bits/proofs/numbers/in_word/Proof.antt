@@ -8,7 +8,8 @@ use Rattle.bits.proofs.numbers.in_word.Tie as tie
 returns : tie.Need-returns
 returns c =
     let s = c .before .before .before .before .before in
-    of-word (s .args .map .now) (s .args .q) (s .args .from) (s .pre .1 .0) (s .pre .1 .1) (sym (c .before .before .before .is-marked .ensures) ∙ c .before .before .if1 .taken) (c .first-one .result) (c .first-one .ensures)
+    of-word (s .args .map .now) (s .args .q) (s .args .from) (s .pre .1 .0) (s .pre .1 .1)
+    (sym (c .before .before .before .is-marked .ensures) ∙ c .before .before .if1 .taken) (c .first-one .result) (c .first-one .ensures)
 
 returns-2 : tie.Need-returns-2
 returns-2 c =

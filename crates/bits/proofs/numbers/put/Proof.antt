@@ -11,7 +11,8 @@ use Rattle.bits.proofs.numbers.put.Tie as tie
 returns : tie.Need-returns
 returns c =
     let s = c .before .before .before .before .before .before .before .before in
-    put-more (s .args .map .now) (c .before .before .mark .last .0) (s .args .n) (s .pre .1) (s .pre .0) (c .before .before .mark .kept .0) (sym (c .before .before .before .before .before .is-marked .ensures) ∙ c .before .before .before .before .if1 .taken) (c .before .before .mark .ensures)
+    put-more (s .args .map .now) (c .before .before .mark .last .0) (s .args .n) (s .pre .1) (s .pre .0) (c .before .before .mark .kept .0)
+    (sym (c .before .before .before .before .before .is-marked .ensures) ∙ c .before .before .before .before .if1 .taken) (c .before .before .mark .ensures)
 
 mark-requires-2 : tie.Need-mark-requires-2
 mark-requires-2 c κs =
@@ -27,13 +28,18 @@ mark-requires-3 : tie.Need-mark-requires-3
 mark-requires-3 c κs = let l = c .before .before .before .before .before .before .before .before .before .pre .1 in omega (arith, long (c .before .before .before))
 
 same-length-2 : tie.Need-same-length-2
-same-length-2 c = c .before .before .mark3 .kept .0 ∙ long (c .before .before .before .before .before .before) ∙ sym (c .before .before .before .before .before .before .before .before .before .before .before .before .pre .0 .size)
+same-length-2 c = c .before .before .mark3 .kept .0 ∙ long (c .before .before .before .before .before .before)
+    ∙ sym (c .before .before .before .before .before .before .before .before .before .before .before .before .pre .0 .size)
 
 returns-2 : tie.Need-returns-2
 returns-2 c =
     let s = c .before .before .before .before .before .before .before .before .before .before .before .before in
-    put-first (s .args .map .now) (c .before .before .mark3 .last .0) (s .args .n) (s .pre .1) (s .pre .0) (c .before .before .mark3 .kept .0 ∙ long (c .before .before .before .before .before .before) ∙ sym (s .pre .0 .size)) (sym (c .before .before .before .before .before .before .before .before .before .is-marked .ensures) ∙ c .before .before .before .before .before .before .before .before .if1 .left)
-    (c .before .before .before .before .before .before .mark2 .last .0) (c .before .before .before .before .before .before .mark2 .ensures) (c .before .before .mark3 .ensures) (long (c .before .before .before .before .before .before))
+    put-first (s .args .map .now) (c .before .before .mark3 .last .0) (s .args .n) (s .pre .1) (s .pre .0)
+    (c .before .before .mark3 .kept .0 ∙ long (c .before .before .before .before .before .before) ∙ sym (s .pre .0 .size))
+    (sym (c .before .before .before .before .before .before .before .before .before .is-marked .ensures)
+    ∙ c .before .before .before .before .before .before .before .before .if1 .left)
+    (c .before .before .before .before .before .before .mark2 .last .0) (c .before .before .before .before .before .before .mark2 .ensures)
+    (c .before .before .mark3 .ensures) (long (c .before .before .before .before .before .before))
 
 pub put-spec : {M : Type 1} → statement M
 put-spec =

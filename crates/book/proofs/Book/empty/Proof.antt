@@ -33,7 +33,11 @@ returns-2 : tie.Need-returns-2 Inv-loop μ-loop
 returns-2 c =
     let l = c .before .loop in
     record {
-      made = λ e. (refl, filled-all (l .m) (replicate bookWords 0) (l .i) (λ k. 0) (l .inv .0 ∙ e ∙ sym (length-replicate {A = ℕ} bookWords 0)) (omega arith) (λ k h. sym (zeros-are bookWords k)) (l .inv .2));
+      made = λ e. (
+        refl,
+        filled-all (l .m) (replicate bookWords 0) (l .i) (λ k. 0) (l .inv .0 ∙ e ∙ sym (length-replicate {A = ℕ} bookWords 0))
+            (omega arith) (λ k h. sym (zeros-are bookWords k)) (l .inv .2),
+      );
       refused = λ n. absurd (n (c .before .before .if1 .left));
     }
 

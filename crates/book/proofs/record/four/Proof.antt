@@ -17,7 +17,8 @@ returns-2 c =
     let d = c .before .before in
     fours-are (s .args .term .now) (s .args .i) (a .wide .result) (b .wide2 .result) (d .wide3 .result) (c .wide4 .result)
     (omega arith) (omega arith) (omega arith) (omega arith)
-    (a .wide .ensures ∙ c .before .before .before .before .before .before .before .cell-or-zero .ensures) (b .wide2 .ensures ∙ c .before .before .before .before .before .cell-or-zero2 .ensures)
+    (a .wide .ensures ∙ c .before .before .before .before .before .before .before .cell-or-zero .ensures)
+    (b .wide2 .ensures ∙ c .before .before .before .before .before .cell-or-zero2 .ensures)
     (d .wide3 .ensures ∙ c .before .before .before .cell-or-zero3 .ensures) (c .wide4 .ensures ∙ c .before .cell-or-zero4 .ensures)
 
 pub four-spec : {M : Type 1} → statement M

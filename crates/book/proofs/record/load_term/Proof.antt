@@ -13,12 +13,14 @@ abbrev μ-loop : tie.MeasureT-loop
 
 -- there is room for four cells
 roomy : (c : tie.In-loop Inv-loop μ-loop) → c .before .loop .i + 3 < 32
-roomy c = room (c .before .before .before .args .words .now) (c .before .loop .cells) (c .before .loop .i) (c .before .before .before .args .size) (c .before .loop .inv) (c .loop-test .taken) (c .before .before .before .pre .1 .0)
+roomy c = room (c .before .before .before .args .words .now) (c .before .loop .cells) (c .before .loop .i) (c .before .before .before .args .size)
+    (c .before .loop .inv) (c .loop-test .taken) (c .before .before .before .pre .1 .0)
 
 loop-again : tie.Need-loop-again Inv-loop μ-loop
 loop-again c =
     let t = c .before .before .before .before in
-    loading-more (t .before .before .before .args .words .now) (t .before .loop .cells) (t .before .loop .i) (c .before .before .before .field .result) (c .before .before .field2 .result) (c .before .field3 .result) (c .field4 .result) (t .before .loop .inv) (roomy t)
+    loading-more (t .before .before .before .args .words .now) (t .before .loop .cells) (t .before .loop .i)
+    (c .before .before .before .field .result) (c .before .before .field2 .result) (c .before .field3 .result) (c .field4 .result) (t .before .loop .inv) (roomy t)
     (c .before .before .before .field .ensures) (c .before .before .field2 .ensures) (c .before .field3 .ensures) (c .field4 .ensures)
 
 returns : tie.Need-returns Inv-loop μ-loop

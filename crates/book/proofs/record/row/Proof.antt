@@ -35,7 +35,8 @@ returns c =
     let l = c .before .loop in
     let s = c .before .before .before in
     let e : l .i ≡ s .args .size = omega arith in
-    rowed (s .args .cells .now) (l .row) (s .args .size) (s .args .number) (s .pre .0) (l .inv .0) (s .pre .1) (λ k h. l .inv .2 k (omega arith)) (λ k h b. l .inv .3 k (omega arith) b)
+    rowed (s .args .cells .now) (l .row) (s .args .size) (s .args .number) (s .pre .0) (l .inv .0) (s .pre .1) (λ k h. l .inv .2 k (omega arith))
+    (λ k h b. l .inv .3 k (omega arith) b)
 
 pub row-spec : {M : Type 1} → statement M
 row-spec =

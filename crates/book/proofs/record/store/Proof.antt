@@ -17,15 +17,20 @@ abbrev μ-loop : tie.MeasureT-loop
 
 loop-again : tie.Need-loop-again Inv-loop μ-loop
 loop-again c =
-    let l = c .before .before .loop in
-    (simp length-set (l .inv .0), omega arith, filled-four (c .before .before .before .before .before .args .term .now) (l .words) (l .i) (c .four .result) (omega arith) (c .four .ensures) (l .inv .2))
+    let l = c .before .before .loop in (
+      simp length-set (l .inv .0),
+      omega arith,
+      filled-four (c .before .before .before .before .before .args .term .now) (l .words) (l .i)
+          (c .four .result) (omega arith) (c .four .ensures) (l .inv .2),
+    )
 
 returns : tie.Need-returns Inv-loop μ-loop
 returns c =
     let l = c .before .loop in
     let s = c .before .before .before .before in
     let t = s .args .term .now in
-    filled-all (fields (l .words)) _ (4 * l .i) (λ k. getD t k 0) (omega (arith, fields-long (l .words), padded-long t (s .pre .1))) (omega (arith, fields-long (l .words))) (λ k h. padded t (32 - length t) k) (l .inv .2)
+    filled-all (fields (l .words)) _ (4 * l .i) (λ k. getD t k 0) (omega (arith, fields-long (l .words), padded-long t (s .pre .1)))
+    (omega (arith, fields-long (l .words))) (λ k h. padded t (32 - length t) k) (l .inv .2)
 
 pub store-spec : {M : Type 1} → statement M
 store-spec =

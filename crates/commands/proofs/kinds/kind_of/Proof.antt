@@ -17,7 +17,8 @@ behind : (k : ℕ) → ¬ (k ≡ 0) → ¬ (k ≡ 1) → ¬ (k ≡ 2) → ¬ (k 
 behind k a b c d e f g h = sym (behind-last k (above (above (above (above (above (above (above (above (omega arith) a) b) c) d) e) f) g) h))
 
 returns-9 : tie.Need-returns-9
-returns-9 c = let r = c .match .rest in behind (c .before .args .kind) (r .0 .0 .0 .0 .0 .0 .0 .1) (r .0 .0 .0 .0 .0 .0 .1) (r .0 .0 .0 .0 .0 .1) (r .0 .0 .0 .0 .1) (r .0 .0 .0 .1) (r .0 .0 .1) (r .0 .1) (r .1)
+returns-9 c = let r = c .match .rest in behind (c .before .args .kind) (r .0 .0 .0 .0 .0 .0 .0 .1) (r .0 .0 .0 .0 .0 .0 .1) (r .0 .0 .0 .0 .0 .1)
+    (r .0 .0 .0 .0 .1) (r .0 .0 .0 .1) (r .0 .0 .1) (r .0 .1) (r .1)
 
 pub kind-of-spec : {M : Type 1} → statement M
 unfolding kindAt

@@ -37,14 +37,17 @@ returns-2 c =
     let w = c .before in
     let n = w .before .before .before in
     let s = n .before .before .before in
-    two (s .args .next) (n .next .given .0 .0) (n .next .given .1) _ (w .before .kind-of .result) (w .before .kind-of .ensures) (w .is-wrong .result) (w .is-wrong .ensures) (c .if1 .taken)
+    two (s .args .next) (n .next .given .0 .0) (n .next .given .1) _ (w .before .kind-of .result) (w .before .kind-of .ensures) (w .is-wrong .result)
+    (w .is-wrong .ensures) (c .if1 .taken)
 
 returns-3 : tie.Need-returns-3
 returns-3 c =
     let w = c .before .before in
     let n = w .before .before .before in
     let s = n .before .before .before in
-    others (s .args .next) (n .next .given .0 .0) (n .next .given .1) _ (w .before .kind-of .result) (w .before .kind-of .ensures) (w .is-wrong .result) (c .term-at .result) (w .is-wrong .ensures) (c .before .if1 .left) (c .term-at .ensures)
+    others (s .args .next) (n .next .given .0 .0) (n .next .given .1) _ (w .before .kind-of .result) (w .before .kind-of .ensures)
+    (w .is-wrong .result) (c .term-at .result) (w .is-wrong .ensures) (c .before .if1 .left) (c .term-at .ensures)
 
 pub command-of-spec : {M : Type 1} → statement M
-command-of-spec = tie.close (tie.spec (λ c. search needs) (λ c. search needs) returns (λ c κs. search needs) (λ c κs. search needs) returns-2 (λ c κs. search needs) returns-3)
+command-of-spec = tie.close (tie.spec (λ c. search needs) (λ c. search needs) returns (λ c κs. search needs) (λ c κs. search needs) returns-2
+    (λ c κs. search needs) returns-3)

@@ -30,14 +30,16 @@ returns-2 : tie.Need-returns-2
 returns-2 c =
     let e = c .before .before .before .before in
     let s = e .before .before .before in
-    some (s .args .kind) (s .args .number) (s .args .cells .now) (s .args .at) _ (not-false _ (e .if1 .left)) (ap (withTerm (s .args .kind) (s .args .number)) (sym (c .before .size .given .1) ∙ c .before .before .before .read .ensures))
+    some (s .args .kind) (s .args .number) (s .args .cells .now) (s .args .at) _ (not-false _ (e .if1 .left))
+    (ap (withTerm (s .args .kind) (s .args .number)) (sym (c .before .size .given .1) ∙ c .before .before .before .read .ensures))
 
 returns-3 : tie.Need-returns-3
 returns-3 c =
     let e = c .before .before .before .before .before in
     let s = e .before .before .before in
     some (s .args .kind) (s .args .number) (s .args .cells .now) (s .args .at) _ (not-false _ (e .if1 .left))
-    (ap (commandWith (s .args .kind) (s .args .number) 0) (c .refusal .ensures) ∙ ap (withTerm (s .args .kind) (s .args .number)) (sym (c .before .before .fault .given .1) ∙ c .before .before .before .before .read .ensures))
+    (ap (commandWith (s .args .kind) (s .args .number) 0) (c .refusal .ensures)
+    ∙ ap (withTerm (s .args .kind) (s .args .number)) (sym (c .before .before .fault .given .1) ∙ c .before .before .before .before .read .ensures))
 
 pub term-at-spec : {M : Type 1} → statement M
 term-at-spec = tie.close (tie.spec returns (λ c κs. search needs) (λ c. search needs) (λ c. search needs) (λ c κs. search needs) returns-2 returns-3)

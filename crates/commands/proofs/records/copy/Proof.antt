@@ -30,8 +30,13 @@ slice-write-out c = let v = c .before .before .loop .inv in let h = c .before .l
 loop-again : tie.Need-loop-again Inv-loop μ-loop
 loop-again c =
     let v = c .before .before .loop .inv in
-    let h = c .before .loop-test .taken in
-    (omega arith, v .1, v .2, copied-more (c .before .before .before .args .out .now) (c .before .before .loop .out) (c .before .before .before .args .cells .now) (c .before .before .loop .i) (omega arith) (omega arith) (v .3))
+    let h = c .before .loop-test .taken in (
+      omega arith,
+      v .1,
+      v .2,
+      copied-more (c .before .before .before .args .out .now) (c .before .before .loop .out)
+          (c .before .before .before .args .cells .now) (c .before .before .loop .i) (omega arith) (omega arith) (v .3),
+    )
 
 same-length : tie.Need-same-length Inv-loop μ-loop
 same-length c =
@@ -42,7 +47,8 @@ returns : tie.Need-returns Inv-loop μ-loop
 returns c =
     let v = c .before .loop .inv in
     let h = c .loop-test .left in
-    copied-all (c .before .before .args .out .now) (c .before .loop .out) (c .before .before .args .cells .now) (c .before .loop .i) (c .before .before .args .size) (omega arith) (v .3)
+    copied-all (c .before .before .args .out .now) (c .before .loop .out) (c .before .before .args .cells .now) (c .before .loop .i)
+    (c .before .before .args .size) (omega arith) (v .3)
 
 pub copy-spec : {M : Type 1} → statement M
 copy-spec =

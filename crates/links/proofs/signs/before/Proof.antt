@@ -25,7 +25,10 @@ module _ (t : tie.Else2) where
   s = e .before .before .before .before .before
 
   from : (y : ℕ) → (y ≡ e .before .first-of .result) ⊎ Further (shape (s .args .m .now)) (word (s .args .m .now) (e .before .first-of .result)) (s .args .c - 1) y → Before (shape (s .args .m .now)) (s .args .p) y (s .args .c)
-  from = let f = e .before .first-of in let v = t .before .cell-of in from-known (s .args .m .now) (s .args .p) (s .args .c) (f .result) (v .result) (s .pre .0) (e .if1 .left) (f .ensures) (v .ensures) (t .if2 .left)
+  from =
+      let f = e .before .first-of in
+      let v = t .before .cell-of in from-known (s .args .m .now) (s .args .p) (s .args .c) (f .result) (v .result) (s .pre .0) (e .if1 .left)
+      (f .ensures) (v .ensures) (t .if2 .left)
 
 returns-3 : tie.Need-returns-3
 returns-3 c = from (c .before .before) _ (inl refl)
@@ -42,9 +45,16 @@ before-spec =
     (λ c. let s = c .before .before .before in at-in (s .pre .0 .size) (live-low (s .args .m .now) (s .pre .0 .size) (s .args .p) (s .pre .0 .live)))
     (λ c κs. search needs)
     returns
-    (λ c. let f = c .before .first-of in let s = c .before .before .before .before .before in at-fits (first-link (s .args .m .now) (s .args .p) (f .result) (s .pre .0) (f .ensures)))
-    (λ c. let f = c .before .first-of in let s = c .before .before .before .before .before in at-bytes (first-link (s .args .m .now) (s .args .p) (f .result) (s .pre .0) (f .ensures)))
-    (λ c. let f = c .before .before .first-of in let s = c .before .before .before .before .before .before in at-in (s .pre .0 .size) (first-link (s .args .m .now) (s .args .p) (f .result) (s .pre .0) (f .ensures)))
+    (λ c.
+    let f = c .before .first-of in
+    let s = c .before .before .before .before .before in at-fits (first-link (s .args .m .now) (s .args .p) (f .result) (s .pre .0) (f .ensures)))
+    (λ c.
+    let f = c .before .first-of in
+    let s = c .before .before .before .before .before in at-bytes (first-link (s .args .m .now) (s .args .p) (f .result) (s .pre .0) (f .ensures)))
+    (λ c.
+    let f = c .before .before .first-of in
+    let s = c .before .before .before .before .before .before in at-in (s .pre .0 .size)
+    (first-link (s .args .m .now) (s .args .p) (f .result) (s .pre .0) (f .ensures)))
     (λ c κs. search needs)
     returns-2
     (λ c κs. search needs)

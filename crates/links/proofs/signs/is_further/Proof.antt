@@ -12,7 +12,8 @@ returns-7 c r =
     let s = k .before .before .before .before .before .before .before .before .before .before .before in
     let p = k .before .before .before .before .before in
     looked-at (s .args .m .now) (s .args .w) (s .args .most) (s .args .f) (k .before .before .before .before .before .before .before .before .before .if1 .left) _ _ _ _ _
-    (p .before .parent-of .ensures) (p .parent-of2 .ensures) (k .before .before .before .before .if3 .left) (k .before .before .before .cell-of .ensures) (k .before .before .cell-of2 .ensures) (k .before .if4 .left)
+    (p .before .parent-of .ensures) (p .parent-of2 .ensures) (k .before .before .before .before .if3 .left)
+    (k .before .before .before .cell-of .ensures) (k .before .before .cell-of2 .ensures) (k .before .if4 .left)
     (k .cell-of3 .ensures) (c .before .before .before .before .if5 .left) (c .is-marked .result) (c .is-marked .ensures) r
 
 pub is-further-spec : {M : Type 1} → statement M

@@ -20,7 +20,8 @@ returns-3 : tie.Need-returns-3
 returns-3 c p = let h = p .holds in omega (arith, length-is h)
 
 -- Where the used slots end.
-ends : (c : tie.After-known-told) → Ends (now (c .before .before .before .before .before .before .before .before .args .table)) (length (now (c .before .before .before .before .before .before .before .before .args .table)) / 32) (c .before .held .given .0 .0)
+ends : (c : tie.After-known-told)
+    → Ends (now (c .before .before .before .before .before .before .before .before .args .table)) (length (now (c .before .before .before .before .before .before .before .before .args .table)) / 32) (c .before .held .given .0 .0)
 ends c = subst (Runs _ _) (c .before .held .given .1) (c .before .before .before .used-slots .ensures)
 
 mul-at : tie.Need-mul-at

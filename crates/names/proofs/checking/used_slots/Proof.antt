@@ -21,7 +21,8 @@ abbrev μ-loop : tie.MeasureT-loop
 μ-loop table slots seen₀ slot₀ seen slot = slots - slot
 
 -- Once a slot is found to be used: its length is below 32.
-used : (c : tie.Else2 Inv-loop μ-loop) → Used (slotHere (now (c .before .before .before .before .before .before .before .before .before .args .table)) (c .before .before .before .before .before .before .before .loop .slot))
+used : (c : tie.Else2 Inv-loop μ-loop)
+    → Used (slotHere (now (c .before .before .before .before .before .before .before .before .before .args .table)) (c .before .before .before .before .before .before .before .loop .slot))
 used c = c .before .is-used .ensures .yes (not-false _ (c .if2 .left))
 
 short : (c : tie.Else2 Inv-loop μ-loop) → c .before .before .before .before .wide .result ≤ 31
@@ -111,7 +112,8 @@ loop-again c =
       omega arith,
       c .before .mark .kept .0 ∙ l .loop .inv .1,
       sofar-more t (l .loop .slot) _ first (e .if1 .left) (used d) (l .loop .seen) so missing (c .before .mark .last .0)
-          (subst (λ (h : ℕ). Meets (l .loop .seen) h (c .before .mark .last .0)) hash (marked (l .loop .seen) _ _ (omega (arith, m .before .before .hash .ensures .1, l .loop .inv .1)) (c .before .mark .ensures))),
+          (subst (λ (h : ℕ). Meets (l .loop .seen) h (c .before .mark .last .0)) hash
+          (marked (l .loop .seen) _ _ (omega (arith, m .before .before .hash .ensures .1, l .loop .inv .1)) (c .before .mark .ensures))),
     )
 
 returns-4 : tie.Need-returns-4 Inv-loop μ-loop

@@ -21,8 +21,12 @@ loop-holds c = (omega arith, omega arith, refl)
 
 loop-again : tie.Need-loop-again Inv-loop μ-loop
 loop-again c =
-    let l = c .before .before .before .loop in
-    (omega arith, omega arith, hash-turn (now (c .before .before .before .before .before .args .bytes)) (l .h) (l .i) (c .wide .result) (c .wide .ensures .0) (omega arith) ∙ l .inv .2)
+    let l = c .before .before .before .loop in (
+      omega arith,
+      omega arith,
+      hash-turn (now (c .before .before .before .before .before .args .bytes)) (l .h) (l .i) (c .wide .result)
+          (c .wide .ensures .0) (omega arith) ∙ l .inv .2,
+    )
 
 returns : tie.Need-returns Inv-loop μ-loop
 returns c =

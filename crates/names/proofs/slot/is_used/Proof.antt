@@ -13,7 +13,8 @@ returns-2 : tie.Need-returns-2
 returns-2 c =
     let t = c .before .before in
     let s = t .before .before .before .before .before .before .before in
-    used-if (now (s .args .slot)) (s .pre) _ (t .before .before .before .before .wide .ensures .0) (t .before .before .before .if1 .left) (t .before .is-name .ensures .yes (t .if2 .taken)) _ (c .all-zero .ensures)
+    used-if (now (s .args .slot)) (s .pre) _ (t .before .before .before .before .wide .ensures .0) (t .before .before .before .if1 .left)
+    (t .before .is-name .ensures .yes (t .if2 .taken)) _ (c .all-zero .ensures)
 
 returns-3 : tie.Need-returns-3
 returns-3 c =

@@ -12,7 +12,8 @@ use Rattle.names.proofs.slot.write.Statement.{statement}
 use Rattle.names.proofs.slot.write.Tie as tie
 
 -- One byte more is copied.
-copy-more : (d : List ℕ) (at : ℕ) (s : List ℕ) (i : ℕ) → at + i < length d → i < length s → (x : List ℕ) → x ≡ paste d at s i → set x (at + i) (getD s i 0) ≡ paste d at s (i + 1)
+copy-more : (d : List ℕ) (at : ℕ) (s : List ℕ) (i : ℕ) → at + i < length d → i < length s → (x : List ℕ) → x ≡ paste d at s i
+    → set x (at + i) (getD s i 0) ≡ paste d at s (i + 1)
 copy-more d at s i h l x e = ap (λ (y : List ℕ). set y (at + i) (getD s i 0)) e ∙ paste-suc d at s i 0 h l ∙ ap (paste d at s) (sym (add-one i))
 
 abbrev Inv-loop : tie.InvT-loop

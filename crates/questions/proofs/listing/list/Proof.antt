@@ -18,7 +18,11 @@ first-requires : tie.Need-first-requires Inv-loop μ-loop
 first-requires c κs = (c .before .before .pre .0, omega arith)
 
 loop-holds : tie.Need-loop-holds Inv-loop μ-loop
-loop-holds c = let s = c .before .before .before in (begins (s .args .marks .now) (s .args .out .now) _ (s .pre .0) (s .pre .1) (c .first .ensures .first), c .first .ensures .left)
+loop-holds c = let s = c .before .before .before in (
+  begins (s .args .marks .now) (s .args .out .now) _ (s .pre .0) (s .pre .1)
+      (c .first .ensures .first),
+  c .first .ensures .left,
+)
 
 cast-out : tie.Need-cast-out Inv-loop μ-loop
 cast-out c = let h = c .before .if1 .taken in omega arith
@@ -27,7 +31,8 @@ mul-out : tie.Need-mul-out Inv-loop μ-loop
 mul-out c = let h = few _ (c .before .before .before .loop .n) (c .before .before .before .loop .s .at) (c .before .before .before .loop .inv .0 .counted) in omega arith
 
 slice-write-out : tie.Need-slice-write-out Inv-loop μ-loop
-slice-write-out c = place-in _ _ (c .before .before .before .loop .out) (c .before .before .before .loop .n) (c .before .before .before .loop .s .at) (c .before .before .before .loop .inv .0) (c .before .if1 .taken)
+slice-write-out c = place-in _ _ (c .before .before .before .loop .out) (c .before .before .before .loop .n) (c .before .before .before .loop .s .at)
+    (c .before .before .before .loop .inv .0) (c .before .if1 .taken)
 
 add-n : tie.Need-add-n Inv-loop μ-loop
 add-n c = let h = few _ (c .before .before .before .loop .n) (c .before .before .before .loop .s .at) (c .before .before .before .loop .inv .0 .counted) in omega arith
@@ -38,12 +43,16 @@ after-requires c κs =
     (i .0 .counted .map, ((h, i .0 .counted .here h), i .1 h))
 
 loop-less : tie.Need-loop-less Inv-loop μ-loop
-loop-less c = let l = c .before .before .before .before .loop in less _ (l .n) (l .s .at) (l .inv .0 .counted) (c .before .before .if1 .taken) (c .after .result .at) (c .after .ensures .first)
+loop-less c = let l = c .before .before .before .before .loop in less _ (l .n) (l .s .at) (l .inv .0 .counted) (c .before .before .if1 .taken)
+    (c .after .result .at) (c .after .ensures .first)
 
 loop-again : tie.Need-loop-again Inv-loop μ-loop
 loop-again c =
-    let l = c .before .before .before .before .loop in
-    (writes _ _ (l .out) (l .n) (l .s .at) (l .inv .0) (c .before .before .if1 .taken) (c .after .result .at) (l .s .at) refl (c .after .ensures .first), c .after .ensures .left)
+    let l = c .before .before .before .before .loop in (
+      writes _ _ (l .out) (l .n) (l .s .at) (l .inv .0) (c .before .before .if1 .taken) (c .after .result .at) (l .s .at) refl
+          (c .after .ensures .first),
+      c .after .ensures .left,
+    )
 
 same-length : tie.Need-same-length Inv-loop μ-loop
 same-length c = still-long _ _ (c .before .before .loop .out) (c .before .before .loop .n) (c .before .before .loop .s .at) (c .before .before .loop .inv .0)

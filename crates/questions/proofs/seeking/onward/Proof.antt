@@ -25,7 +25,8 @@ returns c =
 reaches : (c : tie.Joined1) → Reach (c .before .before .args .cell) (cellOf (c .before .before .args .w)) 32768
 reaches c =
     let s = c .before .before in
-    ⊎-elim (λ w. past (s .args .cell) (cellOf (s .args .w)) (at-most (s .args .cell) _ (cellOf (s .args .w)) (w .1 .ensures) (w .2 .left)) (s .pre .1)) (λ w. no-symbol (s .args .cell) (cellOf (s .args .w)) (w .left)) (c .if1 .came)
+    ⊎-elim (λ w. past (s .args .cell) (cellOf (s .args .w)) (at-most (s .args .cell) _ (cellOf (s .args .w)) (w .1 .ensures) (w .2 .left))
+    (s .pre .1)) (λ w. no-symbol (s .args .cell) (cellOf (s .args .w)) (w .left)) (c .if1 .came)
   where
     at-most : (cell r c : ℕ) → r ≡ c → cell ≤ r → cell ≤ c
     at-most cell r c e h = omega arith

@@ -18,7 +18,11 @@ abbrev μ-loop : tie.MeasureT-loop
 μ-loop m marks₀ link x₀ marks x = sizeAt m x
 
 low : (l : tie.In-loop Inv-loop μ-loop) → (l .before .loop .x ≤ lastLink) × (length (l .before .before .before .before .args .m .now) ≡ bookWords)
-low l = (in-tree (l .before .before .before .before .args .m .now) (l .before .loop .x) (l .before .loop .inv .1 .threaded) (l .loop-test .taken), l .before .loop .inv .1 .threaded .passing .size)
+low l = (
+  in-tree (l .before .before .before .before .args .m .now) (l .before .loop .x) (l .before .loop .inv .1 .threaded)
+      (l .loop-test .taken),
+  l .before .loop .inv .1 .threaded .passing .size,
+)
 
 -- what is known at a turn's end
 module _ (c : tie.After-next-of Inv-loop μ-loop) where
@@ -31,14 +35,18 @@ module _ (c : tie.After-next-of Inv-loop μ-loop) where
 put-requires : tie.Need-put-requires Inv-loop μ-loop
 put-requires c κs =
     let t = c .before .before .before in
-    let s = t .before .before .before .before .args in
-    (t .before .loop .inv .1 .marked .map, number-low (s .m .now) (λ i. t .before .before .before .shared-slice-known .given i .fits) (s .marks .now) (s .link) _ (t .before .loop .x) (t .before .loop .inv .1) (t .loop-test .taken) (c .cell-of .result) (c .cell-of .ensures))
+    let s = t .before .before .before .before .args in (
+      t .before .loop .inv .1 .marked .map,
+      number-low (s .m .now) (λ i. t .before .before .before .shared-slice-known .given i .fits) (s .marks .now)
+          (s .link) _ (t .before .loop .x) (t .before .loop .inv .1) (t .loop-test .taken) (c .cell-of .result) (c .cell-of .ensures),
+    )
 
 loop-less : tie.Need-loop-less Inv-loop μ-loop
 loop-less c =
     let t = turn c in
     let s = t .before .before .before .before .args in
-    fewer (s .m .now) (words c) (s .marks .now) (s .link) _ (t .before .loop .x) (t .before .loop .inv .1) (t .loop-test .taken) _ refl (c .next-of .result) (c .next-of .ensures)
+    fewer (s .m .now) (words c) (s .marks .now) (s .link) _ (t .before .loop .x) (t .before .loop .inv .1) (t .loop-test .taken) _ refl
+    (c .next-of .result) (c .next-of .ensures)
 
 loop-again : tie.Need-loop-again Inv-loop μ-loop
 loop-again c =
@@ -46,7 +54,8 @@ loop-again c =
     let s = t .before .before .before .before .args in
     let k = c .before .before .before in (
       k .put .kept .0 ∙ t .before .loop .inv .0,
-      marks-next (s .m .now) (words c) (s .marks .now) (s .link) _ (t .before .loop .x) (t .before .loop .inv .1) (t .loop-test .taken) (k .before .cell-of .result) (k .before .cell-of .ensures) _ (k .put .ensures) (c .next-of .result) (c .next-of .ensures),
+      marks-next (s .m .now) (words c) (s .marks .now) (s .link) _ (t .before .loop .x) (t .before .loop .inv .1) (t .loop-test .taken)
+          (k .before .cell-of .result) (k .before .cell-of .ensures) _ (k .put .ensures) (c .next-of .result) (c .next-of .ensures),
     )
 
 returns : tie.Need-returns Inv-loop μ-loop

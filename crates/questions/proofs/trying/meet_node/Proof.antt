@@ -27,11 +27,13 @@ module _ (k : tie.After-sibling) where
   skips =
       let s = start .args in
       let h = start .pre in
-      seeking (s .fills-question) (s .fills-rule) (s .m .now) (s .question .now) (s .place) (s .link) (s .cell) (k .before .last-wanted .result) (k .sibling .result) words (h .0 .threaded) (h .1 .1 .1 .1) (h .1 .1 .0) (k .before .last-wanted .ensures) (k .sibling .ensures)
+      seeking (s .fills-question) (s .fills-rule) (s .m .now) (s .question .now) (s .place) (s .link) (s .cell) (k .before .last-wanted .result)
+      (k .sibling .result) words (h .0 .threaded) (h .1 .1 .1 .1) (h .1 .1 .0) (k .before .last-wanted .ensures) (k .sibling .ensures)
 
   low : ¬ (k .sibling .result ≡ 0) → (k .sibling .result ≤ lastLink) × (length (start .args .m .now) ≡ bookWords)
   low nz =
-      let t = skipped (start .args .fills-question) (start .args .fills-rule) (start .args .m .now) (start .args .question .now) words from (start .pre .0) (omega arith) skips .ready .threaded in
+      let t = skipped (start .args .fills-question) (start .args .fills-rule) (start .args .m .now) (start .args .question .now) words from
+      (start .pre .0) (omega arith) skips .ready .threaded in
       (in-tree (start .args .m .now) (k .sibling .result) t nz, t .passing .size)
 
 returns : tie.Need-returns
@@ -40,7 +42,8 @@ returns c =
     let s = start k .args in
     let h = start k .pre in
     subst (Left (s .fills-question) (s .fills-rule) (s .m .now) (s .question .now) (from k) _) (sym (c .nowhere .ensures))
-    (meets-none (s .fills-question) (s .fills-rule) (s .m .now) (s .question .now) (words k) (from k) (h .0) (h .1 .1 .1 .0) (omega arith) (h .1 .0) (k .sibling .result) (skips k) (c .before .if1 .taken))
+    (meets-none (s .fills-question) (s .fills-rule) (s .m .now) (s .question .now) (words k) (from k) (h .0) (h .1 .1 .1 .0) (omega arith) (h .1 .0)
+    (k .sibling .result) (skips k) (c .before .if1 .taken))
 
 returns-2 : tie.Need-returns-2
 returns-2 c =
@@ -49,8 +52,10 @@ returns-2 c =
     let k = e .before in
     let s = start k .args in
     let h = start k .pre in
-    meets-on (s .fills-question) (s .fills-rule) (s .m .now) (s .question .now) (words k) (from k) (h .0) (h .1 .1 .1 .0) (omega arith) (h .1 .0) (k .sibling .result) (skips k) (e .if1 .left)
-    (a .before .cell-of .result) (a .before .cell-of .ensures) _ _ _ (a .meet .ensures) (c .before .before .next-of .result) (c .before .before .next-of .ensures) (c .before .if2 .taken) (c .first-of .result) (c .first-of .ensures)
+    meets-on (s .fills-question) (s .fills-rule) (s .m .now) (s .question .now) (words k) (from k) (h .0) (h .1 .1 .1 .0) (omega arith) (h .1 .0)
+    (k .sibling .result) (skips k) (e .if1 .left)
+    (a .before .cell-of .result) (a .before .cell-of .ensures) _ _ _ (a .meet .ensures) (c .before .before .next-of .result)
+    (c .before .before .next-of .ensures) (c .before .if2 .taken) (c .first-of .result) (c .first-of .ensures)
 
 returns-3 : tie.Need-returns-3
 returns-3 c =
@@ -59,7 +64,8 @@ returns-3 c =
     let k = e .before in
     let s = start k .args in
     let h = start k .pre in
-    meets-not (s .fills-question) (s .fills-rule) (s .m .now) (s .question .now) (words k) (from k) (h .0) (h .1 .1 .1 .0) (omega arith) (h .1 .0) (k .sibling .result) (skips k) (e .if1 .left)
+    meets-not (s .fills-question) (s .fills-rule) (s .m .now) (s .question .now) (words k) (from k) (h .0) (h .1 .1 .1 .0) (omega arith) (h .1 .0)
+    (k .sibling .result) (skips k) (e .if1 .left)
     (a .before .cell-of .result) (a .before .cell-of .ensures) _ _ _ (a .meet .ensures) (c .before .next-of .result) (c .before .next-of .ensures) (c .if2 .left)
 
 pub meet-node-spec : {M : Type 1} → statement M

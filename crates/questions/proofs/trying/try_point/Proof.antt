@@ -42,14 +42,18 @@ returns c =
     record {
       nodes = [];
       marked = marks-none (s .args .m .now) (s .args .marks .now) (s .pre .1 .1);
-      left = passing (s .args .fills-question) (s .args .fills-rule) (s .args .m .now) (s .args .question .now) (words k) (from k) (s .pre .0) (s .pre .1 .0) _ (t .if1 .taken) (c .pass-node .ensures);
+      left = passing (s .args .fills-question) (s .args .fills-rule) (s .args .m .now) (s .args .question .now) (words k) (from k) (s .pre .0)
+          (s .pre .1 .0) _ (t .if1 .taken) (c .pass-node .ensures);
     }
 
 mark-rules-requires : tie.Need-mark-rules-requires
 mark-rules-requires c κs =
     let e = c .before .before in
-    let s = start (e .before) in
-    (numbered (s .args .fills-question) (s .args .fills-rule) (s .args .m .now) (s .args .question .now) (from (e .before)) (e .if1 .left) (c .before .if2 .taken) (s .pre .0), s .pre .1 .1)
+    let s = start (e .before) in (
+      numbered (s .args .fills-question) (s .args .fills-rule) (s .args .m .now) (s .args .question .now) (from (e .before)) (e .if1 .left)
+          (c .before .if2 .taken) (s .pre .0),
+      s .pre .1 .1,
+    )
 
 returns-2 : tie.Need-returns-2
 returns-2 c =
@@ -62,7 +66,9 @@ returns-2 c =
       marked = r .mark-rules .ensures;
       left =
           subst (Left (s .args .fills-question) (s .args .fills-rule) (s .args .m .now) (s .args .question .now) (from (e .before)) _) (sym (c .nowhere .ensures))
-          (all-gone (s .args .fills-question) (s .args .fills-rule) (s .args .m .now) (s .args .question .now) (words (e .before)) (from (e .before)) (s .pre .0) (s .pre .1 .0) _ (all-answer (s .args .fills-question) (s .args .fills-rule) (s .args .m .now) (s .args .question .now) (from (e .before)) (e .if1 .left) (t .if2 .taken)));
+          (all-gone (s .args .fills-question) (s .args .fills-rule) (s .args .m .now) (s .args .question .now) (words (e .before)) (from (e .before))
+          (s .pre .0) (s .pre .1 .0) _ (all-answer (s .args .fills-question) (s .args .fills-rule) (s .args .m .now) (s .args .question .now)
+          (from (e .before)) (e .if1 .left) (t .if2 .taken)));
     }
 
 returns-3 : tie.Need-returns-3
@@ -75,7 +81,8 @@ returns-3 c =
     record {
       nodes = [];
       marked = marks-none (s .args .m .now) (s .args .marks .now) (s .pre .1 .1);
-      left = filling (s .args .fills-question) (s .args .fills-rule) (s .args .m .now) (s .args .question .now) (words (e .before)) (from (e .before)) (s .pre .0) (s .pre .1 .0) _ (e .if1 .left) (n .if2 .left) (f .0) (f .1) (c .pass-node2 .ensures);
+      left = filling (s .args .fills-question) (s .args .fills-rule) (s .args .m .now) (s .args .question .now) (words (e .before)) (from (e .before))
+          (s .pre .0) (s .pre .1 .0) _ (e .if1 .left) (n .if2 .left) (f .0) (f .1) (c .pass-node2 .ensures);
     }
 
 -- there is nothing to skip
@@ -86,7 +93,8 @@ meet-node-requires : tie.Need-meet-node-requires
 meet-node-requires c κs =
     let n = c .before .before in
     let s = start (n .before .before) in (
-      subst (λ (k : ℕ). Ready (s .args .fills-question) (s .args .fills-rule) (s .args .m .now) (s .args .question .now) (record { link = s .args .link; skip = k; place = s .args .place })) (sym (none c)) (s .pre .0),
+      subst (λ (k : ℕ). Ready (s .args .fills-question) (s .args .fills-rule) (s .args .m .now) (s .args .question .now)
+          (record { link = s .args .link; skip = k; place = s .args .place })) (sym (none c)) (s .pre .0),
       (n .if2 .left, (c .before .wanted .ensures, (s .pre .1 .0, c .if3 .left))),
     )
 
@@ -96,7 +104,8 @@ returns-4 c =
     record {
       nodes = [];
       marked = marks-none (s .args .m .now) (s .args .marks .now) (s .pre .1 .1);
-      left = subst (λ (k : ℕ). Left (s .args .fills-question) (s .args .fills-rule) (s .args .m .now) (s .args .question .now) (record { link = s .args .link; skip = k; place = s .args .place }) [] (c .meet-node .result)) (none (c .before)) (c .meet-node .ensures);
+      left = subst (λ (k : ℕ). Left (s .args .fills-question) (s .args .fills-rule) (s .args .m .now) (s .args .question .now)
+          (record { link = s .args .link; skip = k; place = s .args .place }) [] (c .meet-node .result)) (none (c .before)) (c .meet-node .ensures);
     }
 
 pub try-point-spec : {M : Type 1} → statement M

@@ -13,4 +13,5 @@ wanted-spec =
     (λ c. search needs)
     (λ c. let s = c .before .before .args in one-symbol (s .fills-question) (s .question .now) (s .place) (c .before .before .pre) (c .if1 .taken))
     (λ c. any-cell _ _ _ (c .if2 .taken) (c .before .if1 .left))
-    (λ c. let s = c .before .before .before .args in no-symbols (s .fills-question) (s .question .now) (s .place) (c .before .before .before .pre) (c .before .if1 .left) (c .if2 .left)))
+    (λ c. let s = c .before .before .before .args in no-symbols (s .fills-question) (s .question .now) (s .place) (c .before .before .before .pre)
+    (c .before .if1 .left) (c .if2 .left)))

@@ -14,10 +14,13 @@ use Rattle.questions.proofs.turning.turn.Tie as tie
 
 abbrev Inv-loop : tie.InvT-loop
 Inv-loop m fills-question fills-rule question marks₀ p depth x₀ skip₀ at₀ waits₀ waits-skip₀ waits-at₀ marks x skip at waits waits-skip waits-at =
-    (length marks ≡ length marks₀) × Turning fills-question fills-rule m question marks₀ p marks (record { link = x; skip = skip; place = at }) (record { link = waits; skip = waits-skip; place = waits-at })
+    (length marks ≡ length marks₀)
+    × Turning fills-question fills-rule m question marks₀ p marks (record { link = x; skip = skip; place = at })
+    (record { link = waits; skip = waits-skip; place = waits-at })
 
 abbrev μ-loop : tie.MeasureT-loop
-μ-loop m fills-question fills-rule question marks₀ p depth x₀ skip₀ at₀ waits₀ waits-skip₀ waits-at₀ marks x skip at waits waits-skip waits-at = sizeAt m x + sizeAt m waits
+μ-loop m fills-question fills-rule question marks₀ p depth x₀ skip₀ at₀ waits₀ waits-skip₀ waits-at₀ marks x skip at waits waits-skip waits-at =
+    sizeAt m x + sizeAt m waits
 
 module _ (l : tie.At-loop Inv-loop μ-loop) where
   abbrev start : tie.Start Inv-loop μ-loop
@@ -33,11 +36,15 @@ module _ (l : tie.At-loop Inv-loop μ-loop) where
   words i = l .before .before .before .before .before .before .shared-slice-known .given i .fits
 
   -- a point that can be tried can stand on the list
-  small : (p : Point) → Ready (start .args .fills-question) (start .args .fills-rule) (start .args .m .now) (start .args .question .now) p → ¬ (p .link ≡ 0) → Small (p .link) (p .skip) (p .place)
+  small : (p : Point) → Ready (start .args .fills-question) (start .args .fills-rule) (start .args .m .now) (start .args .question .now) p
+      → ¬ (p .link ≡ 0) → Small (p .link) (p .skip) (p .place)
   small p r some =
       let a = r .inside in
-      let b = r .short in
-      (in-tree (start .args .m .now) (p .link) (r .threaded) some, (few-here (start .args .fills-question) (start .args .fills-rule) (start .args .m .now) (start .args .question .now) words p r, omega arith))
+      let b = r .short in (
+        in-tree (start .args .m .now) (p .link) (r .threaded)
+            some,
+        (few-here (start .args .fills-question) (start .args .fills-rule) (start .args .m .now) (start .args .question .now) words p r, omega arith),
+      )
 
 -- the point at hand is tried
 module _ (k : tie.After-struct-known4 Inv-loop μ-loop) where
@@ -55,21 +62,28 @@ loop-again : tie.Need-loop-again Inv-loop μ-loop
 loop-again c =
     let t = c .before .before in
     let k = t .before in
-    let s = start (at k) .args in
-    (same k, passes (s .fills-question) (s .fills-rule) (s .m .now) (s .question .now) (s .marks .now) (s .p) (at k .loop .marks) (here (at k)) (behind (at k)) (at k .loop .inv .1) _ (tried k .try-point .result) (tried k .try-point .ensures) (t .if1 .taken) (c .if2 .taken))
+    let s = start (at k) .args in (
+      same k,
+      passes (s .fills-question) (s .fills-rule) (s .m .now) (s .question .now) (s .marks .now) (s .p) (at k .loop .marks) (here (at k))
+          (behind (at k)) (at k .loop .inv .1) _ (tried k .try-point .result) (tried k .try-point .ensures) (t .if1 .taken) (c .if2 .taken),
+    )
 
 loop-again-2 : tie.Need-loop-again-2 Inv-loop μ-loop
 loop-again-2 c =
     let t = c .before .before in
     let k = t .before in
-    let s = start (at k) .args in
-    (same k, turns-back (s .fills-question) (s .fills-rule) (s .m .now) (s .question .now) (s .marks .now) (s .p) (at k .loop .marks) (here (at k)) (behind (at k)) (at k .loop .inv .1) _ (tried k .try-point .result) (tried k .try-point .ensures) (words (at k)) (t .if1 .taken) (c .if2 .left))
+    let s = start (at k) .args in (
+      same k,
+      turns-back (s .fills-question) (s .fills-rule) (s .m .now) (s .question .now) (s .marks .now) (s .p) (at k .loop .marks) (here (at k))
+          (behind (at k)) (at k .loop .inv .1) _ (tried k .try-point .result) (tried k .try-point .ensures) (words (at k)) (t .if1 .taken) (c .if2 .left),
+    )
 
 loop-less-2 : tie.Need-loop-less-2 Inv-loop μ-loop
 loop-less-2 c =
     let k = c .before .before .before in
     let s = start (at k) .args in
-    back-less (s .fills-question) (s .fills-rule) (s .m .now) (s .question .now) (s .marks .now) (s .p) (at k .loop .marks) (here (at k)) (behind (at k)) (at k .loop .inv .1) _ (tried k .try-point .result) (tried k .try-point .ensures)
+    back-less (s .fills-question) (s .fills-rule) (s .m .now) (s .question .now) (s .marks .now) (s .p) (at k .loop .marks) (here (at k))
+    (behind (at k)) (at k .loop .inv .1) _ (tried k .try-point .result) (tried k .try-point .ensures)
 
 -- there are both
 parted-requires : tie.Need-parted-requires Inv-loop μ-loop
@@ -78,37 +92,48 @@ parted-requires c κs =
     let e = b .before .before in
     let k = e .before in
     let t = tried k .try-point .ensures .left in
-    let d = start (at k) .pre .deep in
-    (small (at k) (behind (at k)) (at k .loop .inv .1 .waits-ready) (c .if4 .taken), ((small (at k) _ (t .beside-ready) (b .if3 .taken), small (at k) _ (t .below-ready) (e .if1 .left)), d))
+    let d = start (at k) .pre .deep in (
+      small (at k) (behind (at k)) (at k .loop .inv .1 .waits-ready)
+          (c .if4 .taken),
+      ((small (at k) _ (t .beside-ready) (b .if3 .taken), small (at k) _ (t .below-ready) (e .if1 .left)), d),
+    )
 
 returns : tie.Need-returns Inv-loop μ-loop
 returns c =
     let f = c .before in
     let k = f .before .before .before .before in
     let s = start (at k) .args in
-    parts-here (s .fills-question) (s .fills-rule) (s .m .now) (s .question .now) (s .marks .now) (s .p) (at k .loop .marks) (here (at k)) (behind (at k)) (at k .loop .inv .1) _ (tried k .try-point .result) (tried k .try-point .ensures)
+    parts-here (s .fills-question) (s .fills-rule) (s .m .now) (s .question .now) (s .marks .now) (s .p) (at k .loop .marks) (here (at k))
+    (behind (at k)) (at k .loop .inv .1) _ (tried k .try-point .result) (tried k .try-point .ensures)
     (f .if4 .taken) (s .depth) _ (c .parted .ensures)
 
 loop-again-3 : tie.Need-loop-again-3 Inv-loop μ-loop
 loop-again-3 c =
     let e = c .before .before .before in
     let k = e .before in
-    let s = start (at k) .args in
-    (same k, leaves-one (s .fills-question) (s .fills-rule) (s .m .now) (s .question .now) (s .marks .now) (s .p) (at k .loop .marks) (here (at k)) (behind (at k)) (at k .loop .inv .1) _ (tried k .try-point .result) (tried k .try-point .ensures) (c .if4 .left) (e .if1 .left))
+    let s = start (at k) .args in (
+      same k,
+      leaves-one (s .fills-question) (s .fills-rule) (s .m .now) (s .question .now) (s .marks .now) (s .p) (at k .loop .marks) (here (at k))
+          (behind (at k)) (at k .loop .inv .1) _ (tried k .try-point .result) (tried k .try-point .ensures) (c .if4 .left) (e .if1 .left),
+    )
 
 -- there is no sibling
 loop-again-4 : tie.Need-loop-again-4 Inv-loop μ-loop
 loop-again-4 c =
     let e = c .before .before in
     let k = e .before in
-    let s = start (at k) .args in
-    (same k, descends (s .fills-question) (s .fills-rule) (s .m .now) (s .question .now) (s .marks .now) (s .p) (at k .loop .marks) (here (at k)) (behind (at k)) (at k .loop .inv .1) _ (tried k .try-point .result) (tried k .try-point .ensures) (c .if3 .left) (e .if1 .left))
+    let s = start (at k) .args in (
+      same k,
+      descends (s .fills-question) (s .fills-rule) (s .m .now) (s .question .now) (s .marks .now) (s .p) (at k .loop .marks) (here (at k))
+          (behind (at k)) (at k .loop .inv .1) _ (tried k .try-point .result) (tried k .try-point .ensures) (c .if3 .left) (e .if1 .left),
+    )
 
 returns-2 : tie.Need-returns-2 Inv-loop μ-loop
 returns-2 c =
     let l = c .before .before in
     let s = start l .args in
-    ends (s .fills-question) (s .fills-rule) (s .m .now) (s .question .now) (s .marks .now) (s .p) (l .loop .marks) (here l) (behind l) (l .loop .inv .1) (c .before .loop-test .left) (s .depth) _ (c .ended .ensures)
+    ends (s .fills-question) (s .fills-rule) (s .m .now) (s .question .now) (s .marks .now) (s .p) (l .loop .marks) (here l) (behind l)
+    (l .loop .inv .1) (c .before .loop-test .left) (s .depth) _ (c .ended .ensures)
 
 pub turn-spec : {M : Type 1} → statement M
 turn-spec =
@@ -120,8 +145,11 @@ turn-spec =
     (λ c. search needs)
     (λ c. search needs)
     (λ c. let w = c .before .before .before .before .before in
-    let s = w .before in
-    (refl, begins (s .args .fills-question) (s .args .fills-rule) (s .args .m .now) (s .args .question .now) (λ i. w .shared-slice-known .given i .fits) (s .args .marks .now) (s .args .p) (s .pre .ready) (s .pre .map)))
+    let s = w .before in (
+      refl,
+      begins (s .args .fills-question) (s .args .fills-rule) (s .args .m .now) (s .args .question .now)
+          (λ i. w .shared-slice-known .given i .fits) (s .args .marks .now) (s .args .p) (s .pre .ready) (s .pre .map),
+    ))
     (λ c κs. let l = c .before .before in (l .loop .inv .1 .ready, (c .before .loop-test .taken, l .loop .inv .1 .marked .map)))
     (λ c. let t = tried (c .before .before .before) .try-point .ensures .left .fewer in omega arith)
     loop-again

@@ -15,11 +15,13 @@ returns-3 : tie.Need-returns-3
 returns-3 c = fill-question _ _ _ _ _ (omega arith) (c .before .before .before .if2 .taken) (c .before .before .if3 .left) _ (c .arity .ensures) (c .before .if4 .taken)
 
 returns-4 : tie.Need-returns-4
-returns-4 c = rw (c .failed .ensures) (keep-question _ _ _ _ _ (omega arith) (c .before .before .before .if2 .taken) (c .before .before .if3 .left) (c .before .if4 .left))
+returns-4 c = rw (c .failed .ensures)
+    (keep-question _ _ _ _ _ (omega arith) (c .before .before .before .if2 .taken) (c .before .before .if3 .left) (c .before .if4 .left))
 
 returns-5 : tie.Need-returns-5
 returns-5 c =
-    fill-rule _ _ _ _ _ (omega arith) (c .before .before .before .before .if2 .left) (c .before .before .before .if5 .taken) (c .before .arity2 .result) _ (c .before .arity2 .ensures .0) (c .past .ensures) (c .before .before .if6 .taken)
+    fill-rule _ _ _ _ _ (omega arith) (c .before .before .before .before .if2 .left) (c .before .before .before .if5 .taken)
+    (c .before .arity2 .result) _ (c .before .arity2 .ensures .0) (c .past .ensures) (c .before .before .if6 .taken)
 
 returns-6 : tie.Need-returns-6
 returns-6 c = rw (c .failed2 .ensures) (keep-rule _ _ _ _ _ (omega arith) (c .before .before .before .if2 .left) (c .before .before .if5 .taken) (c .before .if6 .left))

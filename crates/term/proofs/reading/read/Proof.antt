@@ -35,7 +35,8 @@ returns c =
 returns-2 : tie.Need-returns-2 Inv-loop μ-loop
 returns-2 c =
     let l = c .before .before .before .loop in
-    sym (no-cell (now (c .before .before .before .before .before .args .cells)) (l .wanted) (l .known) (l .place) (l .at) (omega arith) (omega arith) (omega arith)) ∙ l .inv .2
+    sym (no-cell (now (c .before .before .before .before .before .args .cells)) (l .wanted) (l .known) (l .place) (l .at) (omega arith) (omega arith)
+    (omega arith)) ∙ l .inv .2
 
 -- src/reading.rt:89:20
 mul-take : tie.Need-mul-take Inv-loop μ-loop
@@ -58,7 +59,8 @@ returns-3 : tie.Need-returns-3 Inv-loop μ-loop
 returns-3 c =
     let i = c .before .before .before .before .before .before .before in
     let l = i .before .loop in
-    sym (faulty (now (i .before .before .before .args .cells)) (l .wanted) (l .known) (l .place) (l .at) (omega arith) (omega arith) (omega arith) _ (sym (c .before .before .before .take .ensures) ∙ c .before .fault .given .1)) ∙ l .inv .2
+    sym (faulty (now (i .before .before .before .args .cells)) (l .wanted) (l .known) (l .place) (l .at) (omega arith) (omega arith) (omega arith) _
+    (sym (c .before .before .before .take .ensures) ∙ c .before .fault .given .1)) ∙ l .inv .2
 
 -- src/reading.rt:93:28
 enum-known-arity : tie.Need-enum-known-arity Inv-loop μ-loop
@@ -89,8 +91,12 @@ loop-again : tie.Need-loop-again Inv-loop μ-loop
 loop-again c =
     let i = c .before .before .before .before .before .before .before in
     let l = i .before .loop in
-    let e = sym (c .before .before .before .take .ensures) ∙ c .before .arity .given .1 in
-    (omega arith, omega (arith, few _ _ _ _ e), wants (now (i .before .before .before .args .cells)) (l .wanted) (l .known) (l .place) (l .at) (omega arith) (omega arith) (omega arith) _ _ e ∙ l .inv .2)
+    let e = sym (c .before .before .before .take .ensures) ∙ c .before .arity .given .1 in (
+      omega arith,
+      omega (arith, few _ _ _ _ e),
+      wants (now (i .before .before .before .args .cells)) (l .wanted) (l .known) (l .place) (l .at)
+          (omega arith) (omega arith) (omega arith) _ _ e ∙ l .inv .2,
+    )
 
 -- src/reading.rt:75:1
 returns-4 : tie.Need-returns-4 Inv-loop μ-loop

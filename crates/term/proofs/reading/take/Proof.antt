@@ -27,13 +27,27 @@ returns-5 : tie.Need-returns-5
 unfolding takes
 returns-5 c =
     let i = c .before .before .before in
-    simp (le-ltb _ _ (i .before .if1 .left), lt-leb _ _ (i .if2 .left), le-ltb _ _ (c .before .before .if3 .left), le-ltb _ _ (c .before .if4 .left), lt-ltb _ _ (c .if5 .taken))
+    simp (
+      le-ltb _ _ (i .before .if1 .left),
+      lt-leb _ _ (i .if2 .left),
+      le-ltb _ _ (c .before .before .if3 .left),
+      le-ltb _ _
+          (c .before .if4 .left),
+      lt-ltb _ _ (c .if5 .taken),
+    )
 
 returns-6 : tie.Need-returns-6
 unfolding takes
 returns-6 c =
     let i = c .before .before .before in
-    simp (le-ltb _ _ (i .before .if1 .left), lt-leb _ _ (i .if2 .left), le-ltb _ _ (c .before .before .if3 .left), le-ltb _ _ (c .before .if4 .left), le-ltb _ _ (c .if5 .left))
+    simp (
+      le-ltb _ _ (i .before .if1 .left),
+      lt-leb _ _ (i .if2 .left),
+      le-ltb _ _ (c .before .before .if3 .left),
+      le-ltb _ _
+          (c .before .if4 .left),
+      le-ltb _ _ (c .if5 .left),
+    )
 
 pub take-spec : {M : Type 1} → statement M
 take-spec = tie.close (tie.spec (λ c. search needs) returns returns-2 (λ c. search needs) returns-3 returns-4 returns-5 (λ c. search needs) returns-6)
