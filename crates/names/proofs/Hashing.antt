@@ -5,7 +5,7 @@ use Prim.Native.Nat.{ℕ, _+_, _*_, _%_, _≤_, _<_}
 use native.Mathlib.Numerals.{add-one}
 use lib.ListN.{length, getD, drop, drop-of-length-le}
 use lib.Seq.{drop-cons}
-use Rattle.names.specs.Leaves.{hashFrom}
+use Rattle.names.specs.Index.{hashFrom}
 
 module _ (bytes : List ℕ) (h i : ℕ) where
   pub hash-turn : (b : ℕ) → b ≡ getD bytes i 0 → i < length bytes → hashFrom ((h * 37 + b) % 32768) (drop (i + 1) bytes) ≡ hashFrom h (drop i bytes)

@@ -2,5 +2,5 @@
 pub mod Hashing
 pub mod Using
 pub mod Running
-pub mod Bits
+pub mod Indexing
 pub mod Writing

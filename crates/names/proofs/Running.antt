@@ -1,5 +1,5 @@
 -- The used slots, one after another: what the next slot says of the whole table, and what the search among the earlier ones
--- and the map of hashes say of its name.
+-- says of its name.
 use mathlib.Core.Path.{_≡_, refl, sym, ap, subst, _∙_}
 use mathlib.Core.List.{List, [], _∷_, _++_, append-assoc, append-nil}
 use Prim.Native.Nat.{ℕ, suc, _+_, _-_, _*_, _≤_, _<_}
@@ -9,9 +9,10 @@ use lib.ListN.{length, getD, take, drop, replicate, take-append-drop, length-app
 use lib.Seq.{drop-drop, getD-drop, ext-getD}
 use Rattle.names.specs.Table.{Missing, slotOf, slotsOf, Holds, Passes}
 use Rattle.names.specs.Calls.{Counts}
-use Rattle.names.specs.Leaves.{AllZero, Used, Says, Finds, Met, Meets, hashOf, UsedTo, Sofar, Ends}
+use Rattle.names.specs.Index.{bucketOf, bucketAt}
+use Rattle.names.specs.Leaves.{AllZero, Used, Says, Finds, UsedTo, Ends}
 use Rattle.names.specs.Slots.{slot-once, slots-append, slots-length, slot-used, slot-byte, slot-first, slot-name, zeros-are, byte-free}
-use Rattle.names.specs.Entering.{more-length, more-before, more-last, more-named, more-apart, slot-holds}
+use Rattle.names.specs.Entering.{more-length, more-named, more-apart, slot-holds}
 use Rattle.names.proofs.Using.{part-of, rest-is}
 
 slot-after : (name : List ℕ) (i : ℕ) → getD (slotOf name) (1 + i) 0 ≡ getD (name ++ replicate (31 - length name) 0) i 0
@@ -78,25 +79,25 @@ module _ (t : List ℕ) (s n : ℕ) (first : n ≡ getD t (32 * s) 0) (some : n 
         let there : getD (p .names) k [] ≡ nameHere t s n = says-own t k (getD (p .names) k []) (slot-holds h k j) (h .named k j .short) (nameHere t s n) y in
         h .apart k s l i (there ∙ name-is ∙ sym here)
 
-    module _ (seen : List ℕ) (so : Sofar t seen s) where
-      held-slot : (k : ℕ) → k < s → take 32 (drop (32 * k) t) ≡ slotOf (getD (so .begins .names) k [])
+    -- It has the bucket of its name.
+    pub bucket-here : (h : ℕ) → h ≡ bucketOf (nameHere t s n) → bucketAt t s ≡ h
+    bucket-here h e = ap bucketOf (sym (part-of t (32 * s + 1) n ∙ ap (λ (m : ℕ). take m (drop (32 * s + 1) t)) first)) ∙ sym e
+
+    module _ (b : UsedTo t s) where
+      held-slot : (k : ℕ) → k < s → take 32 (drop (32 * k) t) ≡ slotOf (getD (b .names) k [])
       held-slot k l =
-          ap (λ (x : List ℕ). take 32 (drop (32 * k) x)) (so .begins .written)
-          ∙ slot-used (so .begins .names) (drop (32 * s) t) k (so .begins .named) (omega (arith, so .begins .count))
+          ap (λ (x : List ℕ). take 32 (drop (32 * k) x)) (b .written) ∙ slot-used (b .names) (drop (32 * s) t) k (b .named) (omega (arith, b .count))
 
-      pub new-by-hash : (Met seen (hashOf (nameHere t s n)) → ⊥) → Missing (so .begins .names) (nameHere t s n)
-      new-by-hash f k l e = f (subst (λ (x : List ℕ). Met seen (hashOf x)) e (so .marks k (omega (arith, so .begins .count))))
-
-      pub new-by-search : (r : ℕ) → Finds t s (nameHere t s n) r → s ≤ r → Missing (so .begins .names) (nameHere t s n)
-      new-by-search r d m k l e =
-          let j : k < s = omega (arith, so .begins .count) in
-          d .before k (omega arith) (own-says t k (getD (so .begins .names) k []) (held-slot k j) (so .begins .named k l .short) (nameHere t s n) e)
+      -- No earlier slot says the same.
+      pub new-name : (r : ℕ) → Finds t s (nameHere t s n) r → s ≤ r → Missing (b .names) (nameHere t s n)
+      new-name r d m k l e =
+          let j : k < s = omega (arith, b .count) in
+          d .none m k j (own-says t k (getD (b .names) k []) (held-slot k j) (b .named k l .short) (nameHere t s n) e)
 
       -- One slot more.
-      begins-more : Missing (so .begins .names) (nameHere t s n) → UsedTo t (s + 1)
+      pub begins-more : Missing (b .names) (nameHere t s n) → UsedTo t (s + 1)
       unfolding slotsOf
       begins-more m =
-          let b = so .begins in
           let past : 32 * s + 32 ≡ 32 * (s + 1) = omega arith in
           let rest : drop (32 * s) t ≡ slotOf (u .name) ++ drop (32 * (s + 1)) t =
           sym (take-append-drop 32 (drop (32 * s) t)) ∙ ap (λ (x : List ℕ). x ++ drop 32 (drop (32 * s) t)) slot-is-used
@@ -112,23 +113,10 @@ module _ (t : List ℕ) (s n : ℕ) (first : n ≡ getD t (32 * s) 0) (some : n 
             apart = more-apart (b .names) (u .name) (b .apart) (subst (Missing (b .names)) name-is m);
           }
 
-      pub sofar-more : Missing (so .begins .names) (nameHere t s n) → (after : List ℕ) → Meets seen (hashOf (nameHere t s n)) after → Sofar t after (s + 1)
-      unfolding begins-more
-      sofar-more m after e = record { begins = begins-more m; marks = λ k l. go k l (decLt k s) }
-        where
-          go : (k : ℕ) → k < s + 1 → Dec (k < s) → Met after (hashOf (getD (so .begins .names ++ (u .name ∷ [])) k []))
-          go k l (yes y) = e .kept _ (subst (λ (x : List ℕ). Met seen (hashOf x))
-              (sym (more-before (so .begins .names) (u .name) k (omega (arith, so .begins .count)))) (so .marks k y))
-          go k l (no y) =
-              subst (λ (x : List ℕ). Met after (hashOf x)) (name-is ∙ sym (more-last (so .begins .names) (u .name) k (omega (arith, so .begins .count)))) (e .here)
-
 -- Before the first slot.
-pub sofar-none : (t seen : List ℕ) → Sofar t seen 0
+pub begins-none : (t : List ℕ) → UsedTo t 0
 unfolding slotsOf
-sofar-none t seen = record {
-  begins = record { names = []; count = refl; written = refl; named = λ k l. absurd (omega arith); apart = λ j k l m. absurd (omega arith) };
-  marks = λ k l. absurd (omega arith);
-}
+begins-none t = record { names = []; count = refl; written = refl; named = λ k l. absurd (omega arith); apart = λ j k l m. absurd (omega arith) }
 
 -- The length of a table that passes.
 pub length-is : {t : List ℕ} {names : List (List ℕ)} {free : ℕ} → Holds t names free → length t ≡ 32 * (length names + free)
@@ -136,7 +124,7 @@ length-is {t} {names} {free} h =
     omega (arith, ap length (h .written), length-append (slotsOf names) (replicate (32 * free) 0), slots-length names (h .named), length-replicate {A = ℕ} (32 * free) 0)
 
 -- Where the used slots end, the rest of the table decides.
-module _ (t : List ℕ) (slots held : ℕ) (size : length t ≡ 32 * slots) (e : Ends t slots held) where
+module _ (t index : List ℕ) (slots held : ℕ) (size : length t ≡ 32 * slots) (e : Ends t index slots held) where
   -- The bytes from there on, as the code has them.
   abbrev rest : List ℕ
   rest = take (length t - 32 * held) (drop (32 * held) t)

@@ -47,8 +47,7 @@ module _ (s : List ℕ) (size : length s ≡ 32) (n : ℕ) (first : n ≡ getD s
 
   zeros-after : Used s → AllZero (take (length s - (n + 1)) (drop (n + 1) s))
   zeros-after u i =
-      ap (λ (x : List ℕ). getD x i 0)
-      (rest-is s (n + 1) ∙ ap (drop (n + 1)) (u .written) ∙ ap (λ (m : ℕ). drop (m + 1) (slotOf (u .name))) (length-is u)) ∙ after-name (u .name) i
+      ap (λ (x : List ℕ). getD x i 0) (rest-is s (n + 1) ∙ ap (drop (n + 1)) (u .written) ∙ ap (λ (m : ℕ). drop (m + 1) (slotOf (u .name))) (length-is u)) ∙ after-name (u .name) i
 
   module _ (short : n < 32) (named : IsName (take (n + 1 - 1) (drop 1 s))) where
     made : AllZero (take (length s - (n + 1)) (drop (n + 1) s)) → Used s

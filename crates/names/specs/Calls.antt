@@ -1,12 +1,12 @@
 -- What the calls on a table promise: Reference 10, and refusals 1, 11, 12 and 13.
 use mathlib.Core.Path.{_≡_}
-use mathlib.Core.List.{List, []}
-use Prim.Native.Nat.{ℕ, _+_, _*_, _≤_, _<_}
-use lib.ListN.{length, getD, take, drop}
+use mathlib.Core.List.{List, [], _++_}
+use Prim.Native.Nat.{ℕ, _+_, _-_, _*_, _≤_, _<_}
+use lib.ListN.{length, getD, take, drop, replicate}
 use lib.Dec.{ltb}
 use Rattle.deciding.specs.Deciding.{pick}
 use Rattle.names.specs.Name.{isName}
-use Rattle.names.specs.Table.{Holds, Passes, slotIn, put}
+use Rattle.names.specs.Table.{Holds, Passes, slotIn, slotsOf, put}
 pub use Rattle.names.specs.declared.Check.{Check}
 pub use Rattle.names.specs.declared.Check.the-variants.{Fails, Good}
 pub use Rattle.names.specs.declared.Entry.{Entry}
@@ -57,9 +57,26 @@ tableAfter table name NoSlot = table
 
 -- The promise of `enter`: 1 for a table that doesn't pass, else that answer; and every byte of the table after it.
 pub data Enters (before name : List ℕ) (answer : Entry) (after : List ℕ) : Type 0 where
-  entered : {names : List (List ℕ)} {free : ℕ} → Holds before names free → answer ≡ entryIn names free name → after ≡ tableAfter before name answer
-      → Enters before name answer after
+  entered : {names : List (List ℕ)} {free : ℕ} → Holds before names free → answer ≡ entryIn names free name → after ≡ tableAfter before name answer → Enters before name answer after
   no-table : (Passes before → ⊥) → answer ≡ NoTable → after ≡ before → Enters before name answer after
+
+-- The promises of `look_up`, `add` and `append`, on a table that holds names.
+abbrev pub LooksUp : (table : List ℕ) → (held : ℕ) → (name : List ℕ) → (slot : ℕ) → Type 0
+LooksUp table held name slot = (names : List (List ℕ)) (free : ℕ) → Holds table names free → length names ≡ held → slot ≡ slotIn names name
+
+abbrev pub Adds : (before : List ℕ) → (held : ℕ) → (name after : List ℕ) → Type 0
+Adds before held name after = (names : List (List ℕ)) (free : ℕ) → Holds before names free → length names ≡ held → 0 < free → after ≡ put before held name
+
+pub record Appended (before others : List ℕ) (held count : ℕ) (names new : List (List ℕ)) (free room : ℕ) : Type 0 where
+  pub holds : Holds before names free
+  pub held-is : length names ≡ held
+  pub new-holds : Holds others new room
+  pub count-is : length new ≡ count
+  pub fits : count ≤ free
+
+abbrev pub Appends : (before : List ℕ) → (held : ℕ) → (others : List ℕ) → (count : ℕ) → (after : List ℕ) → Type 0
+Appends before held others count after =
+    (names new : List (List ℕ)) (free room : ℕ) → Appended before others held count names new free room → after ≡ slotsOf (names ++ new) ++ replicate (32 * (free - count)) 0
 
 -- The refusal, and where in the table the name stands, for each answer of `part_of`; refused, 0 bytes from byte 0.
 abbrev pub partRefusal : Part → ℕ
@@ -81,8 +98,8 @@ partSize NoNumber = 0
 pub data PartOf (table : List ℕ) (number : ℕ) : Part → Type 0 where
   bad-table : (Passes table → ⊥) → PartOf table number BadTable
   no-number : {names : List (List ℕ)} {free : ℕ} → Holds table names free → length names ≤ number → PartOf table number NoNumber
-  at : {names : List (List ℕ)} {free start size : ℕ} → Holds table names free → number < length names → start ≡ 32 * number + 1
-      → size ≡ length (getD names number []) → PartOf table number (At start size)
+  at : {names : List (List ℕ)} {free start size : ℕ} → Holds table names free → number < length names → start ≡ 32 * number + 1 → size ≡ length
+      (getD names number []) → PartOf table number (At start size)
 
 -- The promise of `name_of`: the part of the table where the name stands.
 pub record NameIs (table : List ℕ) (number : ℕ) (name : List ℕ) : Type 0 where

@@ -105,8 +105,7 @@ again-says NoName = (refl, refl)
 again-says NoSlot = (refl, refl)
 
 enters-again : {t name : List ℕ} (a : Entry) (s : List ℕ) → Enters t name a s → Enters s name (again a) s
-enters-again {t} {name} a s p = enters-so (again a) (subst (λ (x : List ℕ). Given x name (again a)) (sym (leaves p)) (given-again a (given p)))
-    (sym (again-stays s name a))
+enters-again {t} {name} a s p = enters-so (again a) (subst (λ (x : List ℕ). Given x name (again a)) (sym (leaves p)) (given-again a (given p))) (sym (again-stays s name a))
 
 -- Entering a name twice gives the same refusal, the same number and the same table.
 pub record Same (a b : Entry) (s u : List ℕ) : Type 0 where
@@ -143,8 +142,7 @@ module _ {t : List ℕ} {names : List (List ℕ)} {free : ℕ} (h : Holds t name
 
   pub name-held : (part : List ℕ) → NameIs t k part → part ≡ getD names k []
   name-held part p =
-      p .name-is ∙ ap (λ (x : Part). take (partSize x) (drop (partStart x) t))
-      (part-once (p .part) (At (32 * k + 1) (length (getD names k []))) (p .stands) stands-at) ∙ name-is
+      p .name-is ∙ ap (λ (x : Part). take (partSize x) (drop (partStart x) t)) (part-once (p .part) (At (32 * k + 1) (length (getD names k []))) (p .stands) stands-at) ∙ name-is
 
 -- The name of the number that `enter` gave is the name.
 pub entered-name : {t name : List ℕ} (a : Entry) (s part : List ℕ) → Enters t name a s → entryRefusal a ≡ 0 → NameIs s (entryNumber a) part → part ≡ name

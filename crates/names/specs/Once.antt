@@ -36,8 +36,7 @@ slots-once (x ∷ a) (y ∷ b) f g n m e =
     let ly = slot-length y (m 0 (omega arith) .short) in
     let ra = slotsOf a ++ replicate (32 * f) 0 in
     let rb = slotsOf b ++ replicate (32 * g) 0 in
-    let d : slotOf x ++ ra ≡ slotOf y ++ rb = sym (append-assoc (slotOf x) (slotsOf a) (replicate (32 * f) 0)) ∙ e
-    ∙ append-assoc (slotOf y) (slotsOf b) (replicate (32 * g) 0) in
+    let d : slotOf x ++ ra ≡ slotOf y ++ rb = sym (append-assoc (slotOf x) (slotsOf a) (replicate (32 * f) 0)) ∙ e ∙ append-assoc (slotOf y) (slotsOf b) (replicate (32 * g) 0) in
     let same : x ≡ y = slot-once x y (sym (take-at (slotOf x) ra 32 lx) ∙ ap (take 32) d ∙ take-at (slotOf y) rb 32 ly) in
     let rest = slots-once a b f g (named-rest x a n) (named-rest y b m) (sym (drop-at (slotOf x) ra 32 lx) ∙ ap (drop 32) d ∙ drop-at (slotOf y) rb 32 ly) in
     let equal = rest .0 in

@@ -40,8 +40,7 @@ slots-length (name ∷ names) n =
     omega (arith, length-append (slotOf name) (slotsOf names))
 
 -- Slot k of a table that begins with these names: a used one, where it is one of them.
-pub slot-used : (names : List (List ℕ)) (rest : List ℕ) (k : ℕ) → Named names → k < length names
-    → take 32 (drop (32 * k) (slotsOf names ++ rest)) ≡ slotOf (getD names k [])
+pub slot-used : (names : List (List ℕ)) (rest : List ℕ) (k : ℕ) → Named names → k < length names → take 32 (drop (32 * k) (slotsOf names ++ rest)) ≡ slotOf (getD names k [])
 unfolding slotsOf
 slot-used [] rest k n h = absurd (omega arith)
 slot-used (name ∷ names) rest zero n h =
@@ -77,8 +76,7 @@ slot-is (b ∷ s) n l e h z =
     let f : b ≡ length (take n s) = e ∙ sym size in
     let left : length (drop n s) ≡ 31 - length (take n s) = simp length-drop (omega arith) in
     let zs : drop n s ≡ replicate (length (drop n s)) 0 = zeros-are (drop n s) (λ i. rw add-one at (z i)) in
-    let g : s ≡ take n s ++ replicate (31 - length (take n s)) 0 = sym (take-append-drop n s)
-    ∙ ap (λ (r : List ℕ). take n s ++ r) (zs ∙ ap (λ (m : ℕ). replicate m 0) left) in
+    let g : s ≡ take n s ++ replicate (31 - length (take n s)) 0 = sym (take-append-drop n s) ∙ ap (λ (r : List ℕ). take n s ++ r) (zs ∙ ap (λ (m : ℕ). replicate m 0) left) in
     cc
 
 -- What is 0 at each index below the length is 0 at each index.

@@ -3,13 +3,21 @@
 // The meaning stands in specs/: `Name` says what a name is, `Table` what a table is, and `Calls` what each call promises.
 
 pub mod checking;
+mod index;
 pub mod name;
 mod slot;
 
 ghost use mathlib.Core.Path.{_≡_};
-ghost use Rattle.names.specs.Calls.{entryRefusal, entryNumber, partRefusal, partStart, partSize, Enters, Counts, PartOf, NameIs, NameRefused};
+ghost use Prim.Native.Nat.{_+_, _*_, _≤_, _<_};
+ghost use lib.ListN.{length};
+ghost use Rattle.names.specs.Calls.{LooksUp, Adds, Appends, entryRefusal, entryNumber, partRefusal, partStart, partSize, Enters, Counts, PartOf, NameIs, NameRefused};
+ghost use Rattle.names.specs.Index.{Indexed};
 use checking::check;
+use checking::check_into;
+use index::bucket;
+use index::find_in;
 use name::is_name;
+use slot::copy;
 use slot::find;
 use slot::wide;
 use slot::write;
@@ -18,6 +26,9 @@ use slot::write;
 pub const SLOT: usize = 32;
 
 pub const SLOTS: usize = 1024;
+
+// The cells of an index: a head for each bucket, and a link for each slot.
+pub const INDEX: usize = 2048;
 
 // Whether a table passes, and then how many names it holds and how many slots are free.
 pub enum Check {
@@ -97,32 +108,67 @@ pub fn part_size(part: Part) -> usize
     }
 }
 
+// The slot of a name among the first `held` of a table that passes, or `held`: all of them are compared.
+pub fn look_up(table: &[u8], held: usize, name: &[u8]) -> usize
+    requires { ⌜ (32 * held ≤ length (now table)) × (length (now name) < 32) ⌝ }
+    ensures { λ r. ⌜ (r ≤ held) × LooksUp (now (table .entry)) held (now (name .entry)) r ⌝ }
+{
+    find(table, held, name)
+}
+
+// The same, by the index that `checking::check_into` made of the table: only the slots of the name's bucket are compared.
+pub fn look_up_in(table: &[u8], index: &[u16], held: usize, name: &[u8]) -> usize
+    requires { ⌜ (Indexed (now table) held (now index)) × (length (now name) < 32) ⌝ }
+    ensures { λ r. ⌜ (r ≤ held) × LooksUp (now (table .entry)) held (now (name .entry)) r ⌝ }
+{
+    let h = bucket(name);
+    find_in(table, index, held, h, name)
+}
+
+// Writes a name into the first free slot.
+pub fn add(table: &mut [u8], held: usize, name: &[u8])
+    requires { ⌜ (32 * held + 32 ≤ length (now table)) × (length (now name) < 32) ⌝ }
+    ensures { λ _. ⌜ Adds (now (table .entry)) held (now (name .entry)) (now (table .exit)) ⌝ }
+{
+    write(table, SLOT * held, name);
+}
+
+// Copies the first `count` names of another table behind those of this one.
+pub fn append(table: &mut [u8], held: usize, others: &[u8], count: usize)
+    requires { ⌜ (32 * held + 32 * count ≤ length (now table)) × (32 * count ≤ length (now others)) ⌝ }
+    ensures { λ _. ⌜ Appends (now (table .entry)) held (now (others .entry)) count (now (table .exit)) ⌝ }
+{
+    let end = SLOT * count;
+    copy(table, SLOT * held, &others[0..end]);
+}
+
 // Enters a name: the number of its slot, made at the first free slot if it is new.
 pub fn enter(table: &mut [u8], name: &[u8]) -> Entry
     ensures { λ r. ⌜ Enters (now (table .entry)) (now (name .entry)) r (now (table .exit)) ⌝ }
 {
-    match check(table) {
+    let mut index = [0u16; INDEX];
+    match check_into(table, &mut index) {
         Check::Fails => Entry::NoTable,
-        Check::Good { held, free } => enter_passing(table, held, free, name),
+        Check::Good { held, free } => enter_passing(table, &index, held, free, name),
     }
 }
 
 // The same, of a table that passes.
-fn enter_passing(table: &mut [u8], held: usize, free: usize, name: &[u8]) -> Entry
-    requires { ⌜ Counts (now table) held free ⌝ }
+fn enter_passing(table: &mut [u8], index: &[u16], held: usize, free: usize, name: &[u8]) -> Entry
+    requires { ⌜ (Counts (now table) held free) × (Indexed (now table) held (now index)) ⌝ }
     ensures { λ r. ⌜ Enters (now (table .entry)) (now (name .entry)) r (now (table .exit)) ⌝ }
 {
     if !is_name(name) {
         return Entry::NoName;
     }
-    let slot = find(table, held, name);
+    let slot = look_up_in(table, index, held, name);
     if slot < held {
         return Entry::Held(slot);
     }
     if free == 0 {
         return Entry::NoSlot;
     }
-    write(table, SLOT * held, name);
+    add(table, held, name);
     Entry::New(held)
 }
 

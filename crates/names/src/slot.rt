@@ -5,7 +5,7 @@ ghost use Prim.Native.Nat.{_+_, _*_, _≤_, _<_};
 ghost use lib.ListN.{length, set};
 ghost use lib.Seq.{paste};
 ghost use Rattle.deciding.specs.Deciding.{Decides};
-ghost use Rattle.names.specs.Leaves.{AllZero, Used, Finds, hashOf};
+ghost use Rattle.names.specs.Leaves.{AllZero, Used, Says, Finds};
 use crate::SLOT;
 use crate::name::is_name;
 
@@ -44,16 +44,24 @@ pub fn is_used(slot: &[u8]) -> bool
     false
 }
 
-pub fn hash(bytes: &[u8]) -> usize
-    ensures { λ r. ⌜ (r ≡ hashOf (now (bytes .entry))) × (r < 32768) ⌝ }
+// Whether a slot says the name.
+pub fn says(table: &[u8], slot: usize, name: &[u8]) -> bool
+    requires { ⌜ (32 * slot + 32 ≤ length (now table)) × (length (now name) < 32) ⌝ }
+    ensures { λ r. ⌜ Decides (Says (now (table .entry)) slot (now (name .entry))) r ⌝ }
 {
-    let mut h = 0;
+    let n = name.len();
+    let at = SLOT * slot;
+    if wide(table[at]) != n {
+        return false;
+    }
     let mut i = 0;
-    while i < bytes.len() {
-        h = (h * 37 + wide(bytes[i])) % 32768;
+    while i < n {
+        if table[at + 1 + i] != name[i] {
+            return false;
+        }
         i += 1;
     }
-    h
+    true
 }
 
 // The first of the slots below `held` that says the name, or `held`.
@@ -84,17 +92,23 @@ pub fn find(table: &[u8], held: usize, name: &[u8]) -> usize
     }
 }
 
+// Writes bytes from `at` on.
+pub fn copy(table: &mut [u8], at: usize, bytes: &[u8])
+    requires { ⌜ at + length (now bytes) ≤ length (now table) ⌝ }
+    ensures { λ _. ⌜ now (table .exit) ≡ paste (now (table .entry)) at (now (bytes .entry)) (length (now (bytes .entry))) ⌝ }
+{
+    let mut i = 0;
+    while i < bytes.len() {
+        table[at + i] = bytes[i];
+        i += 1;
+    }
+}
+
 // Writes a name's length and bytes from `at` on.
 pub fn write(table: &mut [u8], at: usize, name: &[u8])
     requires { ⌜ (at + 1 + length (now name) ≤ length (now table)) × (length (now name) < 32) ⌝ }
     ensures { λ _. ⌜ now (table .exit) ≡ paste (set (now (table .entry)) at (length (now (name .entry)))) (at + 1) (now (name .entry)) (length (now (name .entry))) ⌝ }
 {
-    let n = name.len();
-    table[at] = n as u8;
-    let from = at + 1;
-    let mut i = 0;
-    while i < n {
-        table[from + i] = name[i];
-        i += 1;
-    }
+    table[at] = name.len() as u8;
+    copy(table, at + 1, name);
 }

@@ -12,12 +12,11 @@ use Rattle.names.proofs.name_of.Statement.{statement}
 use Rattle.names.proofs.name_of.Tie as tie
 
 -- Where the name stands, once it does.
-placed : (c : tie.After-known-told)
-    → PartOf (now (c .before .before .before .before .before .args .table)) (c .before .before .before .before .before .args .number) (At (c .before .start .given .0 .0) (c .before .start .given .0 .1 .0))
+placed : (c : tie.After-known-told) → PartOf (now (c .before .before .before .before .before .args .table))
+    (c .before .before .before .before .before .args .number) (At (c .before .start .given .0 .0) (c .before .start .given .0 .1 .0))
 placed c = subst (PartOf _ _) (c .before .start .given .1) (c .before .before .before .part-of .ensures)
 
-inside : (c : tie.After-known-told)
-    → c .before .start .given .0 .0 + c .before .start .given .0 .1 .0 ≤ length (now (c .before .before .before .before .before .args .table))
+inside : (c : tie.After-known-told) → c .before .start .given .0 .0 + c .before .start .given .0 .1 .0 ≤ length (now (c .before .before .before .before .before .args .table))
 inside c = part-inside _ _ _ (placed c)
 
 add-end : tie.Need-add-end

@@ -14,13 +14,11 @@ use Rattle.names.proofs.part_of.Statement.{statement}
 use Rattle.names.proofs.part_of.Tie as tie
 
 -- The names of the table, once it passes.
-counted : (c : tie.After-known-told)
-    → Counts (now (c .before .before .before .before .before .args .table)) (c .before .held .given .0 .0) (c .before .held .given .0 .1 .0)
+counted : (c : tie.After-known-told) → Counts (now (c .before .before .before .before .before .args .table)) (c .before .held .given .0 .0) (c .before .held .given .0 .1 .0)
 counted c = subst (Checks _) (c .before .held .given .1) (c .before .before .before .check .ensures)
 
 -- A held slot lies within the table.
-inside : (c : tie.Else1)
-    → 32 * c .before .before .before .before .before .before .args .number < length (now (c .before .before .before .before .before .before .args .table))
+inside : (c : tie.Else1) → 32 * c .before .before .before .before .before .before .args .number < length (now (c .before .before .before .before .before .before .args .table))
 inside c = let k = counted (c .before) in omega (arith, k .count, length-is (k .holds))
 
 returns : tie.Need-returns

@@ -1,126 +1,119 @@
 -- Each turn adds one slot to those that the names so far are written in; a slot that can't be added shows that no names are.
-use mathlib.Core.Path.{_≡_, sym, subst, _∙_}
-use mathlib.Core.Logic.{⊎-elim}
-use Prim.Native.Nat.{ℕ, _-_, _≤_}
+use mathlib.Core.Path.{sym, _∙_}
+use Prim.Native.Nat.{_-_, _≤_}
 use native.Mathlib.Omega.{arith}
 use borrow.Author.Needs.{needs}
 use borrow.Author.Tests.{not-true, not-false}
-use lib.ListN.{length, length-take, length-drop, length-replicate, List·getD-eq-default}
+use lib.ListN.{length-take, length-drop, List·getD-eq-default}
 use denote.Ref.{now}
-use borrow.Author.Tests.{eqb-false}
-use Rattle.names.specs.Leaves.{Sofar, Used, Met, Meets}
-use Rattle.names.proofs.Bits.{marked}
-use Rattle.names.proofs.Running.{slotHere, broken-slot, broken-twice, size-is, new-by-hash, new-by-search, sofar-more, sofar-none}
+use Rattle.names.specs.Index.{Indexed}
+use Rattle.names.specs.Leaves.{UsedTo, Used}
+use Rattle.names.proofs.Indexing.{indexed-none, indexed-more}
+use Rattle.names.proofs.Running.{slotHere, broken-slot, broken-twice, size-is, bucket-here, new-name, begins-more, begins-none}
 use Rattle.names.proofs.checking.used_slots.Statement.{statement}
 use Rattle.names.proofs.checking.used_slots.Tie as tie
 
 abbrev Inv-loop : tie.InvT-loop
-Inv-loop table slots seen₀ slot₀ seen slot = (slot ≤ slots) × (length seen ≡ 512) × Sofar table seen slot
+Inv-loop table index₀ slots slot₀ index slot = (slot ≤ slots) × UsedTo table slot × Indexed table slot index
 
 abbrev μ-loop : tie.MeasureT-loop
-μ-loop table slots seen₀ slot₀ seen slot = slots - slot
+μ-loop table index₀ slots slot₀ index slot = slots - slot
+
+abbrev start : tie.At-loop Inv-loop μ-loop → tie.Start Inv-loop μ-loop
+start l = l .before .before .before .before .before .before .before
 
 -- Once a slot is found to be used: its length is below 32.
-used : (c : tie.Else2 Inv-loop μ-loop)
-    → Used (slotHere (now (c .before .before .before .before .before .before .before .before .before .args .table)) (c .before .before .before .before .before .before .before .loop .slot))
+abbrev turn : tie.Else2 Inv-loop μ-loop → tie.At-loop Inv-loop μ-loop
+turn c = c .before .before .before .before .before .before .before
+
+used : (c : tie.Else2 Inv-loop μ-loop) → Used (slotHere (now (start (turn c) .args .table)) (turn c .loop .slot))
 used c = c .before .is-used .ensures .yes (not-false _ (c .if2 .left))
 
 short : (c : tie.Else2 Inv-loop μ-loop) → c .before .before .before .before .wide .result ≤ 31
 short c =
     let e = c .before .before .before in
-    let l = e .before .before .before .before in
     let u = used c in
     let h = u .named .short in
-    omega (arith, size-is (now (l .before .before .args .table)) (l .loop .slot) _ (e .before .wide .ensures .0) (e .if1 .left) u)
+    omega (arith, size-is (now (start (turn c) .args .table)) (turn c .loop .slot) _ (e .before .wide .ensures .0) (e .if1 .left) u)
 
 loop-holds : tie.Need-loop-holds Inv-loop μ-loop
-loop-holds c = (omega arith, length-replicate {A = ℕ} 512 0, sofar-none _ _)
+loop-holds c =
+    let s = c .before .before .before .before .before .before in
+    (omega arith, begins-none _, indexed-none _ _ (c .before .before .clear .kept .0 ∙ s .pre .2) (c .before .before .clear .ensures))
+
+same-length : tie.Need-same-length Inv-loop μ-loop
+same-length c = let l = c .before .before .before .before in l .loop .inv .2 .size ∙ sym (start l .pre .2)
 
 returns : tie.Need-returns Inv-loop μ-loop
 returns c =
     let l = c .before .before .before .before .loop in
-    record { begins = l .inv .2 .begins; within = omega arith; ends = sym (c .before .wide .ensures .0) ∙ c .if1 .taken }
+    record { begins = l .inv .1; indexed = l .inv .2; within = omega arith; ends = sym (c .before .wide .ensures .0) ∙ c .if1 .taken }
 
 is-used-requires : tie.Need-is-used-requires Inv-loop μ-loop
 is-used-requires c κs =
     let l = c .before .before .before .before .before in
-    simp (length-take, length-drop) (omega (arith, l .before .before .pre))
+    simp (length-take, length-drop) (omega (arith, start l .pre))
+
+same-length-2 : tie.Need-same-length-2 Inv-loop μ-loop
+same-length-2 c = let l = c .before .before .before .before .before .before .before in l .loop .inv .2 .size ∙ sym (start l .pre .2)
 
 returns-2 : tie.Need-returns-2 Inv-loop μ-loop
 returns-2 c =
     let w = c .before .before .before in
     let l = w .before .before .before .before in
-    broken-slot (now (l .before .before .args .table)) (l .loop .slot) _ (w .before .wide .ensures .0) (w .if1 .left)
+    broken-slot (now (start l .args .table)) (l .loop .slot) _ (w .before .wide .ensures .0) (w .if1 .left)
     (c .before .is-used .ensures .no (not-true _ (c .if2 .taken)))
 
-add-to : tie.Need-add-to Inv-loop μ-loop
-add-to c = omega (arith, short c)
+part-find-in-end : tie.Need-part-find-in-end Inv-loop μ-loop
+part-find-in-end c = omega (arith, short (c .before .before .before))
 
-sub-hash : tie.Need-sub-hash Inv-loop μ-loop
-sub-hash c = omega (arith, short c)
+find-in-requires : tie.Need-find-in-requires Inv-loop μ-loop
+find-in-requires c κs =
+    let d = c .before .before .before .before in
+    (turn d .loop .inv .2, c .before .before .bucket .ensures .0, simp (length-take, length-drop) (omega (arith, short d)))
 
-part-hash-end : tie.Need-part-hash-end Inv-loop μ-loop
-part-hash-end c = omega (arith, short c)
-
-slice-aggregate-is-marked : tie.Need-slice-aggregate-is-marked Inv-loop μ-loop
-slice-aggregate-is-marked c = sym (c .before .before .before .before .before .before .before .before .before .before .loop .inv .1)
-
-is-marked-requires : tie.Need-is-marked-requires Inv-loop μ-loop
-is-marked-requires c κs = omega (arith, c .before .hash .ensures .1)
-
-sub-find : tie.Need-sub-find Inv-loop μ-loop
-sub-find c = omega arith
-
-part-find-end : tie.Need-part-find-end Inv-loop μ-loop
-part-find-end c = omega (arith, short (c .before .before .before .before .before))
-
-find-requires : tie.Need-find-requires Inv-loop μ-loop
-find-requires c κs =
-    let d = c .before .before .before .before .before .before in
-    (omega (arith, d .before .before .before .before .before .before .before .before .before .pre), simp (length-take, length-drop) (omega (arith, short d)))
+same-length-3 : tie.Need-same-length-3 Inv-loop μ-loop
+same-length-3 c = let l = turn (c .before .before .before .before .before .before) in l .loop .inv .2 .size ∙ sym (start l .pre .2)
 
 returns-3 : tie.Need-returns-3 Inv-loop μ-loop
 returns-3 c =
-    let d = c .before .before .before .before .before .before .before .before in
+    let d = c .before .before .before .before .before .before in
     let e = d .before .before .before in
-    let l = e .before .before .before .before in
-    broken-twice (now (l .before .before .args .table)) (l .loop .slot) _ (e .before .wide .ensures .0) (e .if1 .left) (used d)
-    (c .before .find .result) (c .if4 .taken) (c .before .find .ensures .here (c .if4 .taken))
+    broken-twice (now (start (turn d) .args .table)) (turn d .loop .slot) _ (e .before .wide .ensures .0) (e .if1 .left) (used d)
+    (c .before .find-in .result) (c .if3 .taken) (c .before .find-in .ensures .here (c .if3 .taken))
 
-slice-aggregate-mark : tie.Need-slice-aggregate-mark Inv-loop μ-loop
-slice-aggregate-mark c = sym (c .before .before .before .before .before .before .before .before .before .before .before .before .before .loop .inv .1)
-
-mark-requires : tie.Need-mark-requires Inv-loop μ-loop
-mark-requires c κs = omega (arith, c .before .before .before .before .hash .ensures .1)
+insert-requires : tie.Need-insert-requires Inv-loop μ-loop
+insert-requires c κs =
+    let b = c .before .before .before .before .before in
+    let l = turn (b .before .before) in
+    (l .loop .inv .2 .size, omega (arith, start l .pre), b .bucket .ensures .1)
 
 loop-again : tie.Need-loop-again Inv-loop μ-loop
 loop-again c =
-    let m = c .before .before .before .before in
-    let d = m .before .before .before .before in
+    let i = c .before .before in
+    let f = i .before .before in
+    let b = f .before .before .before .before in
+    let d = b .before .before in
     let e = d .before .before .before in
-    let l = e .before .before .before .before in
-    let t = now (l .before .before .args .table) in
+    let l = turn d in
+    let t = now (start l .args .table) in
+    let s = l .loop .slot in
     let first = e .before .wide .ensures .0 in
-    let so = l .loop .inv .2 in
-    let hash = m .before .before .hash .ensures .0 in
-    let missing =
-    ⊎-elim
-    (λ w. new-by-search t (l .loop .slot) _ first (e .if1 .left) (used d) (l .loop .seen) so (w .2 .result) (w .2 .ensures) (w .3 .left))
-    (λ w. new-by-hash t (l .loop .slot) _ first (e .if1 .left) (used d) (l .loop .seen) so
-    (λ y. eqb-false _ 1 (sym (m .is-marked .ensures) ∙ w .left) (subst (Met (l .loop .seen)) (sym hash) y)))
-    (c .before .before .before .if3 .came) in (
+    let missing = new-name t s _ first (e .if1 .left) (used d) (l .loop .inv .1) (f .before .find-in .result) (f .before .find-in .ensures) (f .if3 .left) in
+    let here = bucket-here t s _ first (e .if1 .left) (used d) (b .bucket .result) (b .bucket .ensures .0) in (
       omega arith,
-      c .before .mark .kept .0 ∙ l .loop .inv .1,
-      sofar-more t (l .loop .slot) _ first (e .if1 .left) (used d) (l .loop .seen) so missing (c .before .mark .last .0)
-          (subst (λ (h : ℕ). Meets (l .loop .seen) h (c .before .mark .last .0)) hash
-          (marked (l .loop .seen) _ _ (omega (arith, m .before .before .hash .ensures .1, l .loop .inv .1)) (c .before .mark .ensures))),
+      begins-more t s _ first (e .if1 .left) (used d) (l .loop .inv .1) missing,
+      indexed-more t (l .loop .index) s (b .bucket .result) (l .loop .inv .2) (omega (arith, start l .pre)) (omega (arith, start l .pre)) (b .bucket .ensures .1) here _ (i .insert .ensures),
     )
+
+same-length-4 : tie.Need-same-length-4 Inv-loop μ-loop
+same-length-4 c = let l = c .before in l .loop .inv .2 .size ∙ sym (start l .pre .2)
 
 returns-4 : tie.Need-returns-4 Inv-loop μ-loop
 returns-4 c =
-    let l = c .before .loop in
-    let s = c .before .before .before in
-    record { begins = l .inv .2 .begins; within = l .inv .0; ends = List·getD-eq-default (now (s .args .table)) 0 (omega (arith, s .pre)) }
+    let l = c .before in
+    let s = start l in
+    record { begins = l .loop .inv .1; indexed = l .loop .inv .2; within = l .loop .inv .0; ends = List·getD-eq-default (now (s .args .table)) 0 (omega (arith, s .pre)) }
 
 pub used-slots-spec : {M : Type 1} → statement M
 used-slots-spec =
@@ -128,33 +121,35 @@ used-slots-spec =
     (tie.spec
     Inv-loop
     μ-loop
+    (λ c κs. search needs)
     loop-holds
     (λ c. search needs)
     (λ c. search needs)
     (λ c κs. search needs)
+    same-length
     returns
     (λ c. search needs)
     (λ c. search needs)
     (λ c. search needs)
     (λ c. search needs)
     is-used-requires
+    same-length-2
     returns-2
     (λ c. search needs)
-    add-to
-    sub-hash
+    (λ c. omega (arith, short c))
+    (λ c. omega (arith, short c))
     (λ c. search needs)
-    part-hash-end
+    (λ c. omega (arith, short c))
     (λ c κs. search needs)
-    slice-aggregate-is-marked
-    is-marked-requires
-    sub-find
     (λ c. search needs)
-    part-find-end
-    find-requires
+    (λ c. search needs)
+    part-find-in-end
+    find-in-requires
+    same-length-3
     returns-3
-    slice-aggregate-mark
-    mark-requires
+    insert-requires
     (λ c. search needs)
     (λ c. search needs)
     loop-again
+    same-length-4
     returns-4)

@@ -42,7 +42,7 @@ loop-again c =
     (omega arith, l .inv .1, below-more _ _ (l .inv .2) (c .if3 .left))
 
 returns : tie.Need-returns Inv-loop μ-loop Inv-slots μ-slots
-returns c = record { within = omega arith; before = λ k l. c .before .slots .inv .1 k (omega arith); here = λ l. absurd (omega arith) }
+returns c = record { within = omega arith; here = λ l. absurd (omega arith); none = λ m k l. c .before .slots .inv .1 k (omega arith) }
 
 returns-2 : tie.Need-returns-2 Inv-loop μ-loop Inv-slots μ-slots
 returns-2 c =
@@ -51,8 +51,8 @@ returns-2 c =
     rw (l .loop .inv .1)
     (record {
       within = omega arith;
-      before = s .slots .inv .1;
       here = λ h. record { size = sym (l .before .before .wide .ensures .0) ∙ l .before .if2 .left; bytes = λ i m. l .loop .inv .2 i (omega arith) };
+      none = λ m. absurd (omega arith);
     })
 
 pub find-spec : {M : Type 1} → statement M
