@@ -1,14 +1,14 @@
 -- What is promised to those who link this library: the three demands, and one outcome for each call. It can be read from top to bottom beside the
 -- table of refusals.
 --
--- Each of the six exported functions is proved, for any memory and any bytes, to end, to do nothing undefined and to keep its promise; none of
+-- Each of the seven exported functions is proved, for any memory and any bytes, to end, to do nothing undefined and to keep its promise; none of
 -- them asks anything of its caller (crates/claggyfoot/src/lib.rt). The promise of a batch is `Runs`: memory that does not pass is turned away;
 -- else what comes of it is `run`, a function of the set of rules, the cells and the room.
 --
 -- A theorem on a refusal is `Exactly is condition follows`: the refusal is given exactly when the condition holds, and then all that follows holds:
 -- the numbers answered, every output cell, byte and word. `CameTo call s c behind` says of which command: the call comes to the stage s, where the
 -- command cell is c, with the cells behind it (specs/Stages, specs/Calls).
-use mathlib.Core.Path.{_≡_, sym, ap, ap₂, _∙_, subst}
+use mathlib.Core.Path.{_≡_, refl, sym, ap, ap₂, _∙_, subst}
 use mathlib.Core.Logic.{_⊎_, inl, inr, _↔_}
 use mathlib.Core.List.{List, [], _∷_, _++_, List·Memᴰ}
 use Prim.Native.Nat.{ℕ, _+_, _*_, _/_, _%_, _≤_, _<_}
@@ -45,6 +45,13 @@ use Rattle.claggyfoot.specs.Refusals.{Adds-term, Names-rule, Held-alread
 use Rattle.claggyfoot.specs.AtCommand.{memory, limits, answered, stops-exactly, refused-exactly, ten, gone-on, fault-exactly, add-exactly, nodes-taken, idle, idle-stays, idle-keeps}
 use Rattle.claggyfoot.specs.Naming.{Gave, Told, enter-1, enter-11, enter-12, enter-held, enter-new, name-of-1, name-of-13, name-of-held}
 use Rattle.claggyfoot.specs.Numbers.{EntersNumbers, PartNumbers, ChecksNumber, passing as passing-number, failing}
+use Rattle.term.specs.Reading.{readTerm}
+use Rattle.term.specs.declared.reading.Reading.the-variants.{Whole}
+use Rattle.text.specs.declared.TextRead.{TextRead}
+use Rattle.text.specs.Promises.{told, tableOf, Reads}
+use Rattle.typed.specs.Refusals.{TokenRefused, AllTaken, tokensOf, faultOf, stopOf, namesWith, whole}
+use Rattle.claggyfoot.specs.Typing.{Refused, refused-table, refused-token, refused-fault, refused-room, text-read, text-term}
+pub use Rattle.text.specs.Promises.{reads-once}
 pub use Rattle.claggyfoot.specs.Numbers.{enters-numbers-once, part-numbers-once, checks-number-once}
 
 -- ==== Demand 1: each refusal in the list comes exactly when its condition and the order call for it
@@ -150,7 +157,9 @@ module _ {call : Call} {s : Stage} {c : ℕ} {behind : List ℕ} (at : CameTo ca
   refusal-10 = ten at
 
   -- A command that is not refused: its record is the one that `does` says, the rules after it too, and the batch goes on.
-  pub not-refused : Exactly (Answered call s 0) ((length (effectOf s c behind .answer .cells) < s .room) × (effectOf s c behind .answer .refusal ≡ 0)) (GoneOn call s (effectOf s c behind .answer) (onward s size (effectOf s c behind) behind))
+  pub not-refused : Exactly (Answered call s 0)
+      ((length (effectOf s c behind .answer .cells) < s .room) × (effectOf s c behind .answer .refusal ≡ 0))
+      (GoneOn call s (effectOf s c behind .answer) (onward s size (effectOf s c behind) behind))
   not-refused = (answered at 0, λ x. gone-on at (x .0) (goes-on-with (s .rules) kind number (omega arith) behind 0 (λ y. let a = y .0 in omega arith) (x .1)))
 
   -- At each command there is a memory: it passes, holds the rules of the stage, and lies on the way from the book before the call to the book after it.
@@ -198,6 +207,47 @@ refusal-13 = name-of-13
 pub name-stands : {table : List ℕ} {number refusal start size : ℕ} (call : PartNumbers table number refusal start size) (names : List (List ℕ)) (free : ℕ)
     → Holds table names free → number < length names → Told call 0 (32 * number + 1) (length (getD names number []))
 name-stands = name-of-held
+
+-- Typed terms. A text says tokens, and ends with a fault or none, whatever the table is (crates/text/specs/Term); then the tokens get their numbers
+-- (Naming). Refused, the answer has 0 in all else, with 20 but the place, and every byte of the table is as it was.
+
+-- 1: the table doesn't pass, before all others.
+pub text-1 : {table text table′ : List ℕ} {r : TextRead} (call : Reads table text r table′) → Exactly (r .refusal ≡ 1) (¬ (PassesTable table)) (Refused call 1 0)
+text-1 = refused-table
+
+module _ {table text table′ : List ℕ} {r : TextRead} (call : Reads table text r table′) (names : List (List ℕ)) (free : ℕ) (holds : Holds table names free) where
+  -- 20: no term can go on at a byte, or at the end: that place. No token before it is refused.
+  pub text-20 : Exactly (r .refusal ≡ 20) (AllTaken names text × (faultOf text ≡ 20)) (Refused call 20 (stopOf text))
+  text-20 = refused-fault call names free holds 20 (inl refl)
+
+  -- 21: an eighth argument.
+  pub text-21 : Exactly (r .refusal ≡ 21) (AllTaken names text × (faultOf text ≡ 21)) (Refused call 21 0)
+  text-21 = refused-fault call names free holds 21 (inr (inl refl))
+
+  -- 5: a thirty-third cell.
+  pub text-5 : Exactly (r .refusal ≡ 5) (AllTaken names text × (faultOf text ≡ 5)) (Refused call 5 0)
+  text-5 = refused-fault call names free holds 5 (inr (inr refl))
+
+  -- 11: the first token that is refused is no name.
+  pub text-11 : Exactly (r .refusal ≡ 11) (TokenRefused names [] (tokensOf text) 11) (Refused call 11 0)
+  text-11 = refused-token call names free holds 11 (inl refl)
+
+  -- 4: the first token that is refused is a seventeenth variable.
+  pub text-4 : Exactly (r .refusal ≡ 4) (TokenRefused names [] (tokensOf text) 4) (Refused call 4 0)
+  text-4 = refused-token call names free holds 4 (inr refl)
+
+  -- 12: nothing else is refused, and the new names outnumber the free slots.
+  pub text-12 : Exactly (r .refusal ≡ 12) (AllTaken names text × (faultOf text ≡ 0) × (length names + free < length (namesWith names text))) (Refused call 12 0)
+  text-12 = refused-room call names free holds
+
+  -- Not refused: place, size and cells, and every byte of the table.
+  pub text-reads : AllTaken names text → faultOf text ≡ 0 → length (namesWith names text) ≤ length names + free
+      → (r ≡ told (whole names text)) × (table′ ≡ tableOf (length names + free) (namesWith names text))
+  text-reads = text-read call names free holds
+
+  -- Its cells are one whole term, so no batch refuses it with 3, 4 or 5.
+  pub text-whole : r .refusal ≡ 0 → readTerm (r .cells) ≡ Whole (r .size)
+  text-whole = text-term call names free holds
 
 -- A batch on a book that passes stops with 0, 2, 3, 4, 5 or 10; with 0 exactly when all cells are used.
 pub stops-so : (call : Call) → Kept call → Passing (call .book) → StopNumber (call .stop) × (call .stop ≡ 0 ↔ call .used ≡ length (call .cells))

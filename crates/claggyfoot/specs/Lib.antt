@@ -8,6 +8,7 @@ pub mod Calls
 pub mod Refusals
 pub mod AtCommand
 pub mod Naming
+pub mod Typing
 -- the demands
 pub mod Demands
 pub mod Wrong

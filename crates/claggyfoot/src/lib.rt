@@ -3,8 +3,10 @@ ghost use mathlib.Core.Path.{_≡_};
 ghost use Rattle.layout.specs.Layout.{bookWords};
 ghost use Rattle.book.specs.Promises.{Empties};
 ghost use Rattle.batch.specs.Promises.{Runs};
+ghost use Rattle.text.specs.Promises.{Reads};
 ghost use Rattle.claggyfoot.specs.Numbers.{EntersNumbers, PartNumbers, ChecksNumber};
 use book::Book;
+use text::TextRead;
 
 // What `cf_name_enter` answers: 0 and the number of the name's slot, or the refusal and 0.
 #[repr(C)]
@@ -58,6 +60,14 @@ pub extern "C" fn cf_name_of(table: &[u8], number: u64) -> NamePlace
         start: wide(names::part_start(part)),
         length: wide(names::part_size(part)),
     }
+}
+
+// Reads a typed term, and enters its names.
+#[no_mangle]
+pub extern "C" fn cf_text_read(table: &mut [u8], text: &[u8]) -> TextRead
+    ensures { λ r. ⌜ Reads (now (table .entry)) (now (text .entry)) r (now (table .exit)) ⌝ }
+{
+    text::read(table, text)
 }
 
 // The length of a book's memory in words.

@@ -1,0 +1,1 @@
+// Laws of typed terms, over the text reader and the reader of cells: no code.
