@@ -1,5 +1,5 @@
 # The two commands of the README: `make run` and `make test`. Each does all its own set-up.
-CELLS ?= examples/session.cells
+TYPED ?= examples/lamp.rules
 SECONDS ?= 60
 SEED ?= 1
 
@@ -11,11 +11,17 @@ ifneq ($(shell uname -m),x86_64)
 UNLINKED := the archive is for x86-64: Rust on this processor cannot link it
 endif
 
-.PHONY: run test prove archive session rust examples soak bench fmt
+.PHONY: run test prove archive session typed rust examples soak bench fmt
 
-# A session in words, and as the session program prints it: the reference's, or another: make run CELLS=examples/lamp.cells
+# A session in words, and as the session program prints it. The commands are typed, make run TYPED=examples/lamp.rules, or
+# cells, make run CELLS=examples/session.cells.
+ifdef CELLS
 run: session
 	@$(SHOW) '$(CELLS)'
+else
+run: session typed
+	@$(SHOW) target/typed '$(TYPED)'
+endif
 
 # Everything: the proofs from nothing, the must-fail edits and the programs (rt ci), then the archive beside the model,
 # then the examples. The verdict of rt ci is printed once more as the last line, after all else has passed.
@@ -32,11 +38,19 @@ archive:
 	@mkdir -p target
 	@log=target/staticlib.log; rt staticlib claggyfoot >$$log 2>&1 || { cat $$log; exit 1; }
 
+# target/NAME runs target/bin/NAME, on this processor or by the emulator.
+runs = printf '\#!/bin/sh\nexec "%s/x86/run" "%s/target/bin/$(1)"\n' '$(CURDIR)' '$(CURDIR)' >target/$(1) && chmod +x target/$(1)
+
 # The session program, which `make run` shows and the tests run beside the model.
 session:
 	@log=$$(mktemp); rt check session >$$log 2>&1 || { cat $$log; exit 1; }; rm -f $$log
-	@printf '#!/bin/sh\nexec "%s/x86/run" "%s/target/bin/session"\n' '$(CURDIR)' '$(CURDIR)' >target/session
-	@chmod +x target/session
+	@$(call runs,session)
+
+# Typed commands into cells, by the archive.
+typed: archive
+	@mkdir -p target/bin
+	@x86/cc target/bin/typed examples/c/typed.c target/staticlib/libclaggyfoot.a
+	@$(call runs,typed)
 
 rust: archive session
 ifdef UNLINKED
@@ -47,7 +61,7 @@ else
 endif
 
 # The example programs and sessions, each beside what it has to print.
-examples: archive session
+examples: archive session typed
 	@x86/cc target/adventure examples/c/adventure.c target/staticlib/libclaggyfoot.a
 	@x86/run target/adventure >target/adventure.out && diff examples/c/adventure.out target/adventure.out
 ifndef UNLINKED
@@ -55,7 +69,8 @@ ifndef UNLINKED
 	@diff examples/c/adventure.out target/adventure.out
 endif
 	@$(SHOW) examples/session.cells >target/session.out && diff examples/session.out target/session.out
-	@$(SHOW) examples/lamp.cells >target/lamp.out && diff examples/lamp.out target/lamp.out
+	@$(SHOW) target/typed examples/lamp.rules >target/lamp.out && diff examples/lamp.out target/lamp.out
+	@! $(SHOW) target/typed examples/wrong.rules 2>target/wrong.out && diff examples/wrong.out target/wrong.out
 	@echo 'examples: each prints what it has to'
 
 # The archive beside the model for as long as told: make soak SECONDS=600 SEED=7

@@ -15,7 +15,7 @@
  * here.
  *
  * The refusal numbers, and what a person can do, stand in the table below. A refused command never changes the book,
- * and a refused name never changes the table.
+ * and a refused name or text never changes the table.
  */
 #ifndef CLAGGYFOOT_H
 #define CLAGGYFOOT_H
@@ -78,9 +78,11 @@ extern "C" {
  *  11  the bytes are no name                         1 to 31 bytes from 32 to 126, no space first or last
  *  12  a new name, and no free slot                  copy the table into a larger one: its bytes, then zeros
  *  13  no name has this number                       use a number that cf_name_enter gave
+ *  20  text: no term can go on at this byte or end   look there: a name, a variable, a comma or a bracket is wanted
+ *  21  text: an eighth argument                      give at most seven, or put some into a term of their own
  *
  * Where several hold, the first is given: 1, then 2, then what is wrong with the term in reading order (at one place
- * 5, 3, 4), then 6, 8, 9. 10 replaces any record that does not fit.
+ * 5, 3, 4), then 6, 8, 9. 10 replaces any record that does not fit. For texts see cf_text_read.
  */
 #define CF_DONE 0
 #define CF_REFUSED_MEMORY 1
@@ -96,6 +98,8 @@ extern "C" {
 #define CF_REFUSED_NAME 11
 #define CF_REFUSED_SLOT 12
 #define CF_REFUSED_NUMBER 13
+#define CF_REFUSED_TEXT 20
+#define CF_REFUSED_ARGUMENT 21
 
 /* ---- The book */
 
@@ -158,6 +162,39 @@ typedef struct cf_name_place {
 
 /* Where the name with a number stands in the table. Writes nothing. */
 cf_name_place cf_name_of(const uint8_t *table, size_t bytes, uint64_t number);
+
+/* ---- Typed terms: put(lamp, X), in the TPTP plain term form
+ *
+ * A name is a lower word, lamp; any other name stands in single quotes, 'dark cave', with \' and \\ for a quote and a
+ * backslash. 'lamp' and lamp are the same name. A variable is an upper word, X. Words go on over letters, digits and _.
+ * A bracket after a name opens its arguments, with commas between them. Spaces, tabs, newlines and comments, from % to
+ * the line's end, may stand between all of these. There are no numbers.
+ */
+
+typedef struct cf_text_term {
+    uint64_t refusal;              /* 0, 1, 4, 5, 11, 12, 20 or 21 */
+    uint64_t place;                /* text[place] comes after the term's last byte; with 20 it is the byte at which no term
+                                      can go on, or `length` at the text's end; 0 with any other refusal */
+    uint64_t size;                 /* the term's cells; 0 when refused */
+    uint16_t cells[CF_MOST_CELLS]; /* the cells, and zeros behind them; all zeros when refused */
+} cf_text_term;
+
+/*
+ * Reads one term from the front of a text, and enters its names into the table: each name before those of its arguments.
+ * Variables are numbered as they first appear. What follows the term is not judged; the next one can be read from
+ * text + place.
+ *
+ *   1           not a table; before all others, whatever the text is.
+ *   20          no term can go on at `place`.
+ *   21  5       at the first byte of an eighth argument, of a thirty-third cell.
+ *   11  4       at the last byte of a word or a quoted name that is no name (any byte may stand in quotes), of a
+ *               seventeenth variable.
+ *   12          more new names than free slots; only where nothing else is refused.
+ *
+ * The first in reading order is given, and at one place the first in this order. Refused, no byte of the table has
+ * changed.
+ */
+cf_text_term cf_text_read(uint8_t *table, size_t bytes, const uint8_t *text, size_t length);
 
 #ifdef __cplusplus
 }

@@ -8,6 +8,7 @@
 mod agree;
 mod archive;
 mod arena;
+mod by_hand;
 mod changes;
 mod index;
 mod mapped;
@@ -18,6 +19,7 @@ mod questions;
 mod report;
 mod rules;
 mod sheet;
+mod texts;
 mod timing;
 
 use std::path::Path;
@@ -45,6 +47,7 @@ fn main() -> io::Result<()> {
         changes::measure_check(set, &mut sheet);
     }
     names::measure(&mut sheet);
+    texts::measure(&mut sheet);
     report::print(&sheet);
     let repository = Path::new(env!("CARGO_MANIFEST_DIR")).join("../..");
     fs::create_dir_all(repository.join("target"))?;

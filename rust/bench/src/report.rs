@@ -4,6 +4,7 @@ use crate::plot::{plot, Curve};
 use crate::questions::NAMES;
 use crate::rules::{sizes, KINDS};
 use crate::sheet::{Sheet, WAYS};
+use crate::texts;
 use crate::timing::geometric_mean;
 
 /// Prints all tables.
@@ -24,6 +25,7 @@ pub fn print(sheet: &Sheet) {
     }
     print_check(sheet);
     print_names(sheet);
+    print_texts(sheet);
     print_means(sheet);
     print_growth(sheet);
     print_full(sheet);
@@ -58,6 +60,28 @@ fn print_names(sheet: &Sheet) {
     for line in sheet.lines().iter().filter(|line| line.set == "names") {
         let (count, what, who) = (line.rules, &line.what, line.who);
         println!("{count:>5} {what:<22} {who:<10} {:>10.0}", line.nanoseconds);
+    }
+}
+
+/// Reading typed terms: the check apart, and what is above it by the reader written by hand.
+fn print_texts(sheet: &Sheet) {
+    println!("\nReading typed terms whose names are held, ns");
+    println!(
+        "{:>5} {:>5} {:>10} {:>10} {:>10} {:>10} {:>7}",
+        "names", "cells", "archive", "check", "above it", "by hand", "ratio"
+    );
+    for size in texts::SIZES {
+        for cells in texts::CELLS {
+            let time = |who| {
+                let time = sheet.time("texts", size, &texts::what(cells), who);
+                time.unwrap_or(f64::NAN)
+            };
+            let [all, check, above, hand] = texts::WHO.map(time);
+            let ratio = above / hand;
+            println!(
+                "{size:>5} {cells:>5} {all:>10.0} {check:>10.0} {above:>10.0} {hand:>10.0} {ratio:>7.2}"
+            );
+        }
     }
 }
 

@@ -6,3 +6,4 @@ pub mod lent;
 pub mod memory;
 pub mod shapes;
 pub mod tables;
+pub mod texts;

@@ -1,5 +1,7 @@
 //! The proved calls on a name table and the model's, on one table.
 
+use std::collections::HashMap;
+
 use claggyfoot::ffi::{self, NameEntered, NamePlace};
 use model::names;
 
@@ -38,4 +40,48 @@ pub fn name_alike(table: &[u8], number: u64) -> NamePlace {
     };
     assert_eq!(found, wanted, "number {number} of {table:?}");
     found
+}
+
+/// A table of so many slots with these names.
+pub fn table_of<N: AsRef<[u8]>>(slots: usize, names: &[N]) -> Vec<u8> {
+    let mut table = vec![0; 32 * slots];
+    for (number, name) in names.iter().enumerate() {
+        put(&mut table, number, name.as_ref());
+    }
+    table
+}
+
+/// Writes a slot, whether or not the bytes are a name.
+pub fn put(table: &mut [u8], slot: usize, name: &[u8]) {
+    let slot = &mut table[32 * slot..][..32];
+    slot.fill(0);
+    slot[0] = name.len() as u8;
+    slot[1..=name.len()].copy_from_slice(name);
+}
+
+/// So many names: room 0, room 1, ..
+pub fn rooms(count: usize) -> Vec<Vec<u8>> {
+    (0..count)
+        .map(|n| format!("room {n}").into_bytes())
+        .collect()
+}
+
+/// The hash of the archive's check, so that tests reach names with equal hashes.
+fn hash(name: &[u8]) -> usize {
+    name.iter()
+        .fold(0, |hash, byte| (hash * 37 + usize::from(*byte)) % 32_768)
+}
+
+/// Names of one hash, as many as asked for.
+pub fn names_of_one_hash(count: usize) -> Vec<Vec<u8>> {
+    let mut met: HashMap<usize, Vec<Vec<u8>>> = HashMap::new();
+    for number in 0.. {
+        let name = format!("{number:x}").into_bytes();
+        let names = met.entry(hash(&name)).or_default();
+        names.push(name);
+        if names.len() == count {
+            return names.clone();
+        }
+    }
+    unreachable!("some hash is met as often as wanted")
 }

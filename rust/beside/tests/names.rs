@@ -1,8 +1,7 @@
 //! The proved calls on a name table beside the model's.
 
-use beside::tables::{enter_alike, name_alike};
+use beside::tables::{enter_alike, name_alike, names_of_one_hash, put, rooms, table_of};
 use model::random::Random;
-use std::collections::HashMap;
 
 /// Both answer every call alike on this table.
 fn alike(table: &[u8]) {
@@ -13,23 +12,6 @@ fn alike(table: &[u8]) {
     for number in [0, 1, slots.wrapping_sub(1), slots, 4095, u64::MAX] {
         name_alike(table, number);
     }
-}
-
-/// A table of so many slots with these names.
-fn table_of(slots: usize, names: &[&[u8]]) -> Vec<u8> {
-    let mut table = vec![0; 32 * slots];
-    for (number, name) in names.iter().enumerate() {
-        put(&mut table, number, name);
-    }
-    table
-}
-
-/// Writes a slot, whether or not the bytes are a name.
-fn put(table: &mut [u8], slot: usize, name: &[u8]) {
-    let slot = &mut table[32 * slot..][..32];
-    slot.fill(0);
-    slot[0] = name.len() as u8;
-    slot[1..=name.len()].copy_from_slice(name);
 }
 
 fn refusal(table: &[u8], name: &[u8]) -> u64 {
@@ -71,15 +53,12 @@ fn every_byte_at_every_place() {
 
 #[test]
 fn a_full_table() {
-    let names: Vec<Vec<u8>> = (0..1024)
-        .map(|n| format!("room {n}").into_bytes())
-        .collect();
-    let names: Vec<&[u8]> = names.iter().map(|name| &name[..]).collect();
+    let names = rooms(1024);
     let full = table_of(1024, &names);
     assert_eq!(refusal(&full, b"a new one"), 12);
     assert_eq!(refusal(&full, b"room 7 "), 11);
     for number in [0, 1, 511, 1022, 1023] {
-        let (answer, after) = enter_alike(&full, names[number]);
+        let (answer, after) = enter_alike(&full, &names[number]);
         assert_eq!((answer.refusal, answer.number), (0, number as u64));
         assert_eq!(after, full);
         let place = name_alike(&full, number as u64);
@@ -95,49 +74,25 @@ fn a_full_table() {
 
 #[test]
 fn two_equal_names_far_apart() {
-    let names: Vec<Vec<u8>> = (0..1024)
-        .map(|n| format!("room {n}").into_bytes())
-        .collect();
-    let names: Vec<&[u8]> = names.iter().map(|name| &name[..]).collect();
+    let names = rooms(1024);
     let full = table_of(1024, &names);
     for (first, second) in [(0, 1023), (0, 1), (1022, 1023), (3, 700), (511, 512)] {
         let mut twice = full.clone();
-        put(&mut twice, second, names[first]);
+        put(&mut twice, second, &names[first]);
         assert_eq!(refusal(&twice, b"room 9"), 1);
         assert_eq!(name_alike(&twice, 9).refusal, 1);
     }
 }
 
-/// The hash of the archive's check, so that tests reach names with equal hashes.
-fn hash(name: &[u8]) -> usize {
-    name.iter()
-        .fold(0, |hash, byte| (hash * 37 + usize::from(*byte)) % 32_768)
-}
-
-/// Names of one hash, as many as asked for.
-fn names_of_one_hash(count: usize) -> Vec<Vec<u8>> {
-    let mut met: HashMap<usize, Vec<Vec<u8>>> = HashMap::new();
-    for number in 0.. {
-        let name = format!("{number:x}").into_bytes();
-        let names = met.entry(hash(&name)).or_default();
-        names.push(name);
-        if names.len() == count {
-            return names.clone();
-        }
-    }
-    unreachable!("some hash is met as often as wanted")
-}
-
 #[test]
 fn equal_hashes_are_no_equal_names() {
     let names = names_of_one_hash(60);
-    let names: Vec<&[u8]> = names.iter().map(|name| &name[..]).collect();
     let table = table_of(60, &names[..59]);
-    assert_eq!(enter_alike(&table, names[59]).0.number, 59);
-    assert_eq!(enter_alike(&table, names[58]).0.number, 58);
+    assert_eq!(enter_alike(&table, &names[59]).0.number, 59);
+    assert_eq!(enter_alike(&table, &names[58]).0.number, 58);
     for (first, second) in [(0, 58), (0, 1), (57, 58), (20, 40)] {
         let mut twice = table.clone();
-        put(&mut twice, second, names[first]);
+        put(&mut twice, second, &names[first]);
         assert_eq!(refusal(&twice, b"cave"), 1);
     }
 }
@@ -176,7 +131,7 @@ fn every_bit_flipped_in_a_small_table() {
 
 #[test]
 fn every_length_byte() {
-    let good = table_of(3, &[b"cave", &[b'x'; 31], b"lamp"]);
+    let good = table_of(3, &[&b"cave"[..], &[b'x'; 31], b"lamp"]);
     for slot in 0..3 {
         for length in 0..=255 {
             let mut table = good.clone();

@@ -70,7 +70,7 @@ impl Book {
     pub fn run(&mut self, commands: &[u16], out: &mut [u16]) -> Ended {
         let ended = ffi::batch(&mut self.words, commands, out);
         Ended {
-            stop: Refusal::answered(ended.stop).map_or(Stop::Done, Stop::At),
+            stop: Refusal::of(ended.stop).map_or(Stop::Done, Stop::At),
             used: ended.used as usize,
             written: ended.written as usize,
         }

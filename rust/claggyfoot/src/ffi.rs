@@ -2,7 +2,7 @@
 //! slice may be lent. The other modules put types around these; who keeps a book in memory of their own may call them.
 
 mod foreign {
-    use super::{BatchEnded, NameEntered, NamePlace};
+    use super::{BatchEnded, NameEntered, NamePlace, TextRead};
 
     extern "C" {
         /// The words of a book.
@@ -35,6 +35,14 @@ mod foreign {
 
         /// Finds the name with a number; `table` points to `bytes` bytes.
         pub fn cf_name_of(table: *const u8, bytes: usize, number: u64) -> NamePlace;
+
+        /// Reads a typed term; `table` points to `bytes` bytes that may be written, `text` to `length` bytes.
+        pub fn cf_text_read(
+            table: *mut u8,
+            bytes: usize,
+            text: *const u8,
+            length: usize,
+        ) -> TextRead;
     }
 }
 
@@ -70,6 +78,20 @@ pub struct NamePlace {
     pub start: u64,
     /// The count of the name's bytes; 0 when refused.
     pub length: u64,
+}
+
+/// What reading a typed term answers.
+#[repr(C)]
+#[derive(Clone, Copy, PartialEq, Eq, Debug)]
+pub struct TextRead {
+    /// 0, or the refusal 1, 4, 5, 11, 12, 20 or 21.
+    pub refusal: u64,
+    /// The place after the term's last byte; with 20 the place where no term can go on; 0 with any other refusal.
+    pub place: u64,
+    /// The term's cells; 0 when refused.
+    pub size: u64,
+    /// The cells, and zeros behind them; all zeros when refused.
+    pub cells: [u16; 32],
 }
 
 /// The words of a book.
@@ -108,4 +130,10 @@ pub fn name_enter(table: &mut [u8], name: &[u8]) -> NameEntered {
 pub fn name_of(table: &[u8], number: u64) -> NamePlace {
     // SAFETY: pointer and count are those of a live slice, which the call only reads and doesn't keep.
     unsafe { foreign::cf_name_of(table.as_ptr(), table.len(), number) }
+}
+
+/// Reads one typed term and enters its names into a table.
+pub fn text_read(table: &mut [u8], text: &[u8]) -> TextRead {
+    // SAFETY: pointers and counts are those of live slices that don't overlap, since one is `&mut`; the call keeps none.
+    unsafe { foreign::cf_text_read(table.as_mut_ptr(), table.len(), text.as_ptr(), text.len()) }
 }

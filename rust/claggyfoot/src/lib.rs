@@ -1,23 +1,21 @@
 //! A rule book for text adventures that is proved never to miss a rule.
 //!
-//! A rule is a number with a term. A term is a row of 16-bit cells in preorder ([`cell`]). The [`Book`] holds the rules
-//! and runs batches of commands: add, remove, show, room, and the four questions. A [`Batch`] writes commands, and
-//! [`records`] reads what came out. The [`Table`] gives names their numbers.
+//! A rule is a number with a term. Terms are typed as text, and become rows of 16-bit cells in preorder ([`cell`]). The
+//! [`Table`] reads them and gives names their numbers. The [`Book`] holds the rules and runs batches of commands: add,
+//! remove, show, room, and the four questions. A [`Batch`] writes commands, and [`records`] reads what came out.
 //!
 //! ```
-//! use claggyfoot::{cell, records, Batch, Book, Stop, Table};
+//! use claggyfoot::{records, Batch, Book, Stop, Table};
 //!
 //! # fn main() -> Result<(), Box<dyn std::error::Error>> {
 //! let mut names = Table::new(64)?;
-//! let put = cell::symbol(names.enter(b"put")?, 2)?;
-//! let lamp = cell::symbol(names.enter(b"lamp")?, 0)?;
-//! let cave = cell::symbol(names.enter(b"dark cave")?, 0)?;
-//! let x = cell::variable(0)?;
+//! let rule = names.read(b"put(lamp, X)")?;
+//! let typed = names.read(b"put(lamp, 'dark cave')")?;
 //!
-//! // Rule 5 is put(lamp, X). Which rules could apply to put(lamp, dark cave)?
+//! // Which rules could apply to what was typed?
 //! let mut batch = Batch::new();
-//! batch.add(5, &[put, lamp, x])?;
-//! batch.generalisations(&[put, lamp, cave])?;
+//! batch.add(5, rule.cells())?;
+//! batch.generalisations(typed.cells())?;
 //!
 //! let mut book = Book::empty();
 //! let mut out = [0; 100];
@@ -42,9 +40,11 @@ pub mod ffi;
 mod records;
 mod refusal;
 mod table;
+mod text;
 
 pub use batch::{Batch, NoCommand};
 pub use book::{Book, Ended};
 pub use records::{records, Record, Records};
 pub use refusal::{Refusal, Stop};
 pub use table::Table;
+pub use text::{Place, Term, Unread};

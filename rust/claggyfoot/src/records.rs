@@ -42,10 +42,7 @@ impl<'a> Iterator for Records<'a> {
 
     fn next(&mut self) -> Option<Record<'a>> {
         let (head, after) = self.left.split_first()?;
-        let refusal = match head >> 12 {
-            0 => None,
-            number => Some(Refusal::of(u64::from(number))?),
-        };
+        let refusal = Refusal::of(u64::from(head >> 12));
         let (cells, left) = after.split_at_checked(usize::from(head & 0x0fff))?;
         self.left = left;
         Some(Record { refusal, cells })
@@ -58,7 +55,7 @@ mod tests {
 
     #[test]
     fn what_is_no_record_is_left() {
-        for out in [&[0x0003, 1, 2][..], &[0xe000], &[0xf001, 1]] {
+        for out in [&[0x0003, 1, 2][..], &[0x6001]] {
             let mut all = records(out);
             assert_eq!(all.next(), None);
             assert_eq!(all.rest(), out);

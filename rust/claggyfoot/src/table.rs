@@ -2,6 +2,7 @@
 
 use crate::ffi;
 use crate::refusal::Refusal;
+use crate::text::{term, Term, Unread};
 
 /// The bytes of a slot.
 const SLOT: usize = 32;
@@ -42,7 +43,7 @@ impl Table {
     /// The table that these bytes are, or [`Refusal::Memory`] where they aren't one.
     pub fn from_bytes(bytes: Vec<u8>) -> Result<Table, Refusal> {
         // No table has so high a number, so the answer is 13 for a table and 1 for what is none.
-        let refusal = Refusal::answered(ffi::name_of(&bytes, u64::MAX).refusal);
+        let refusal = Refusal::of(ffi::name_of(&bytes, u64::MAX).refusal);
         match refusal {
             Some(Refusal::Memory) => Err(Refusal::Memory),
             _ => Ok(Table { bytes }),
@@ -57,16 +58,38 @@ impl Table {
     /// The name's number; a new name takes the first free slot.
     pub fn enter(&mut self, name: &[u8]) -> Result<u16, Refusal> {
         let entered = ffi::name_enter(&mut self.bytes, name);
-        match Refusal::answered(entered.refusal) {
+        match Refusal::of(entered.refusal) {
             None => Ok(entered.number as u16),
             Some(refusal) => Err(refusal),
         }
     }
 
+    /// Reads one typed term from the front of a text, and enters its names. What follows the term isn't judged: the
+    /// next one can be read from `text[term.place()..]`.
+    ///
+    /// ```
+    /// use claggyfoot::Table;
+    ///
+    /// # fn main() -> Result<(), Box<dyn std::error::Error>> {
+    /// let mut names = Table::new(8)?;
+    /// let rule = names.read(b"put(lamp, X)   % onto anything")?;
+    /// assert_eq!(rule.cells(), [0x2000, 0x0001, 0x8000]);
+    /// assert_eq!(rule.place(), 12);
+    /// assert_eq!(names.name_of(1)?, b"lamp");
+    ///
+    /// let unread = names.read(b"put(lamp,\n    7)").unwrap_err();
+    /// assert!(unread.to_string().starts_with("line 2, column 5: "));
+    /// # Ok(())
+    /// # }
+    /// ```
+    pub fn read(&mut self, text: &[u8]) -> Result<Term, Unread> {
+        term(text, ffi::text_read(&mut self.bytes, text))
+    }
+
     /// The name with a number.
     pub fn name_of(&self, number: u16) -> Result<&[u8], Refusal> {
         let place = ffi::name_of(&self.bytes, u64::from(number));
-        match Refusal::answered(place.refusal) {
+        match Refusal::of(place.refusal) {
             None => Ok(&self.bytes[place.start as usize..][..place.length as usize]),
             Some(refusal) => Err(refusal),
         }

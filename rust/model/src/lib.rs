@@ -12,3 +12,5 @@ pub mod questions;
 pub mod random;
 pub mod session;
 pub mod term;
+pub mod text;
+pub mod typing;

@@ -93,6 +93,16 @@ fn fill(slot: &mut [u8], name: &[u8]) {
     slot[1..1 + name.len()].copy_from_slice(name);
 }
 
+/// The number of a name in a passing table: its slot, or the first free one, which it takes; nothing where none is free.
+pub(crate) fn slot_for(table: &mut [u8], name: &[u8]) -> Option<usize> {
+    if let Some(number) = find(table, name) {
+        return Some(number);
+    }
+    let number = held(table).len();
+    fill(table.chunks_mut(SLOT).nth(number)?, name);
+    Some(number)
+}
+
 /// Enters a name: the number of its slot, made at the first free slot if it is new. The order is 1, 11, held, 12, so
 /// a held name is found in a full table. Refused, the table is unchanged.
 pub fn enter(table: &mut [u8], name: &[u8]) -> Result<usize, Refusal> {
@@ -102,13 +112,7 @@ pub fn enter(table: &mut [u8], name: &[u8]) -> Result<usize, Refusal> {
     if !is_name(name) {
         return Err(Refusal::NoName);
     }
-    if let Some(number) = find(table, name) {
-        return Ok(number);
-    }
-    let number = held(table).len();
-    let slot = table.chunks_mut(SLOT).nth(number).ok_or(Refusal::NoSlot)?;
-    fill(slot, name);
-    Ok(number)
+    slot_for(table, name).ok_or(Refusal::NoSlot)
 }
 
 /// What entering answers in numbers: the refusal or 0, and the slot's number, 0 when refused.

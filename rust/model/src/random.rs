@@ -98,7 +98,7 @@ fn variable(random: &mut Random, variables: &mut u16) -> u16 {
 }
 
 /// A length of a term: mostly short, now and then up to 32, and 32 itself.
-fn length(random: &mut Random) -> usize {
+pub(crate) fn length(random: &mut Random) -> usize {
     match random.below(20) {
         0 => 32,
         1 => random.between(1, 32),

@@ -1,4 +1,4 @@
-//! A session in words: the commands of a file of cells, and beside each its record as the session program answers it.
+//! A session in words: the commands of a file, and beside each its record as the session program answers it.
 //!
 //! Nothing is decided here. What the words say of records, stop, used and written was printed by the program.
 

@@ -11,6 +11,7 @@ pub mod rooms;
 pub mod rows;
 pub mod tables;
 pub mod terms;
+pub mod texts;
 
 use counts::Counts;
 use model::random::Random;
@@ -36,5 +37,6 @@ pub fn parts() -> Vec<(Box<dyn Part>, usize)> {
         (Box::new(memories::Plain), 60),
         (Box::new(tables::Flips::new()), 3 * 32),
         (Box::new(tables::Plain), 300),
+        (Box::new(texts::Texts), 500),
     ]
 }

@@ -35,6 +35,10 @@ fn every_part_for_a_while() {
         "name tables that pass",
         "name tables that don't pass",
         "rooms for a batch",
+        "texts read",
+        "texts with too many new names",
+        "texts in which no term can go on",
+        "texts refused by 4, 5, 11 or 21",
     ] {
         assert!(counts.of(kind) > 100, "{kind}\n{counts}");
     }
