@@ -1,4 +1,6 @@
 // The batch: commands in turn, over a book in lent memory.
+#![tactic(auto)]
+
 pub mod records;
 
 ghost use Rattle.std.specs.Prelude.{◌≡◌, ◌+◌, ◌≤◌, ◌<◌, length, drop};

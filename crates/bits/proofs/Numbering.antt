@@ -17,7 +17,7 @@ use Rattle.bits.specs.Numbers.{counts, has, Member, NumberSet, Emptied, PutsNumb
 use Rattle.bits.proofs.Searching.{none_left, left_low, one_left, shift_twice, zero_bit}
 
 apart : (b : Bool) → b ≡ true → b ≡ false → ⊥
-apart true e f = mathlib.Core.Bool.true_not_false f
+apart true e f = mathlib.Core.Bool.true≢false f
 apart false e f = mathlib.Core.Bool.false≢true e
 
 -- ---- one word cleared

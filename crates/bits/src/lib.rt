@@ -2,6 +2,8 @@
 //
 //   field i is field i % 4 of word i / 4:     | 0 | 1 | 2 | 3 |  16 bits each
 //   bit n is bit n % 64 of word n / 64:       |0|1|2| .. |63|    so bit 63 - n % 64 by weight
+#![tactic(auto)]
+
 pub mod numbers;
 
 ghost use Rattle.std.specs.Prelude.{◌≡◌, ◌+◌, ◌*◌, ◌≤◌, ◌<◌, eqb, length, get_or, set, replicate, true, false};

@@ -8,6 +8,8 @@
 //
 // A place of a number means something only where the rule there has that number, so removing a rule writes neither
 // places nor records.
+#![tactic(auto)]
+
 pub mod record;
 
 ghost use Rattle.std.specs.Prelude.{◌≡◌, ◌<◌, length};

@@ -1,4 +1,6 @@
 // One rule more, one rule less.
+#![tactic(auto)]
+
 ghost use Rattle.std.specs.Prelude.{◌≡◌, ◌<◌, ◌≤◌, length};
 ghost use Rattle.layout.specs.Layout.{rule_numbers, rules_limit, last_link, sign_fields, book_words};
 ghost use Rattle.book.specs.Rules.{plain};

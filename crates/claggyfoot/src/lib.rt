@@ -1,4 +1,6 @@
 // What C and Rust link. Each function wraps one call of the crates below it, and promises what that call promises, in numbers.
+#![tactic(auto)]
+
 ghost use Rattle.std.specs.Prelude.{◌≡◌};
 ghost use Rattle.layout.specs.Layout.{book_words};
 ghost use Rattle.book.specs.Promises.{Empties};

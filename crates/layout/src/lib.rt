@@ -1,4 +1,5 @@
 // Where what stands in a book's memory: the constants of specs/Layout, which draws it. The code above names words and parts by them.
+#![tactic(auto)]
 
 // ---- limits
 

@@ -1,4 +1,5 @@
 // The words of the tree: a word a link, with its cell, parent, first child and next sibling; and the signs beside them.
+#![tactic(auto)]
 
 pub mod signs;
 

@@ -2,6 +2,8 @@
 //
 // Each call that puts something is given the text and the place where it goes, and answers the place behind it. Bytes for
 // which the text has no room are left out, so no call asks for room.
+#![tactic(auto)]
+
 ghost use Rattle.std.specs.Prelude.{◌≡◌, ◌++◌, ◌<◌, min};
 ghost use Rattle.std.proofs.lemmas.List.Edits.{sets};
 ghost use Rattle.listing.specs.Listing.{decimal, hex_digit_of, space, hex_cell, hex_cells, record_line, record_lines, stop_line, cells_in, records_in};

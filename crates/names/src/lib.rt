@@ -1,6 +1,7 @@
 // The name table: lent bytes in slots of 32, a name's number being its slot. A space is a character: no call trims.
 //
 // The meaning stands in specs/: `Name` says what a name is, `Table` what a table is, and `Calls` what each call promises.
+#![tactic(auto)]
 
 pub mod checking;
 mod index;

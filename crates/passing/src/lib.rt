@@ -1,6 +1,8 @@
 // The check: does lent memory hold a set of rules? One walk down from the root: node by node along first children, and back to the
 // last node of the way that has a next sibling. A node that is come to is taken from those left, so no walk is longer than the maps
 // have bits, and its time goes with the nodes and the rules held.
+#![tactic(auto)]
+
 ghost use Rattle.std.specs.Prelude.{◌≡◌, false, ◌%◌, ◌≤◌, ◌<◌, length, get_or, take};
 ghost use Rattle.deciding.specs.Deciding.{Decides};
 ghost use Rattle.layout.specs.Layout.{map_words, last_link, book_words};

@@ -5,6 +5,7 @@
 // one at hand, the others on the list.
 // Where the machine is done, the node and all its later siblings are rules that answer. Variants, instances, generalisations
 // and unifiables differ in two flags and in nothing else.
+#![tactic(auto)]
 
 pub mod listing;
 mod seeking;

@@ -1,4 +1,5 @@
 // A rule's place and record, held against the way that the check has come down: is it right, with a term of the way's form?
+#![tactic(auto)]
 
 mod tail;
 

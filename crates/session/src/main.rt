@@ -1,4 +1,6 @@
 // Reads commands as cells from standard input, runs one batch on an empty book, and writes a listing of its records.
+#![tactic(auto)]
+
 ghost use Rattle.std.specs.Prelude.{◌≤◌, length};
 ghost use Rattle.writing.specs.Writing.{Front};
 ghost use Rattle.session.specs.Session.{answer as answerTo, session};

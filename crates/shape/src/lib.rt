@@ -1,1 +1,2 @@
 // The tree as functions: definitions and laws, no code.
+#![tactic(auto)]

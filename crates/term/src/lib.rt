@@ -2,6 +2,7 @@
 //
 // The meaning stands in specs/: `Cells`, `Reading`, `Questions` and `Beginnings` are the reference's words, `Machine` is the
 // way by which the four questions are decided, and `Meaning` proves that the machine decides them.
+#![tactic(auto)]
 
 pub mod machine;
 pub mod reading;

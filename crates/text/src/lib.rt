@@ -1,5 +1,7 @@
 // A term read from text into cells, with its names entered on the way. The meaning stands in specs/: `Term` says what the tokens of a
 // text are, `Naming` which numbers they get, `Text` what is answered, and `Promises` what the call promises.
+#![tactic(auto)]
+
 mod naming;
 mod shape;
 

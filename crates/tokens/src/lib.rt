@@ -1,4 +1,6 @@
 // The tokens of a text, by the place where each begins. The meaning stands in specs/Tokens.
+#![tactic(auto)]
+
 ghost use Rattle.std.specs.Prelude.{◌≡◌, List, [], ◌∷◌, ◌++◌, ℕ, ◌≤◌, length, drop};
 ghost use Rattle.tokens.specs.Bytes.{either, within, is_lower_byte, is_upper_byte, is_digit_byte, is_word_byte, is_blank_byte, begins, is_escaped_byte, head};
 ghost use Rattle.tokens.specs.Tokens.{skip, comment, bare, quoted, token};

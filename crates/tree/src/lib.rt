@@ -8,6 +8,8 @@
 //
 // The two maps are one: behind the nodes of forms stand the rules, as nodes too. The rule at place r is the node 4,096 + r, and its
 // number is its cell. Parent, first child and next sibling are links; 0 is the root or none. Siblings ascend by cell.
+#![tactic(auto)]
+
 ghost use Rattle.std.specs.Prelude.{◌≡◌, reverse, true, false, suc, ◌+◌, ◌<◌, ◌≤◌, length};
 ghost use Rattle.layout.specs.Layout.{nodes_limit, last_link, tree_words, sign_words};
 ghost use Rattle.shape.specs.Shape.{Used, to};

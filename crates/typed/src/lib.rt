@@ -1,1 +1,2 @@
 // Laws of typed terms, over the text reader and the reader of cells: no code.
+#![tactic(auto)]

@@ -3,7 +3,7 @@ use Rattle.std.specs.Prelude.{◌≡◌, refl, ℕ, ◌+◌, List, [], ◌∷◌
 use Rattle.std.proofs.Common.{sym, subst}
 use Rattle.std.proofs.Math.Option.{some as found}
 use seplogic.Ra.Ura.{Ura}
-use seplogic.Ra.TreeShare.{full_share}
+use base.Fraction.{full_share}
 use mir.Syntax.{Ty, field, place, Opd as Operand, copy}
 use mir.Val.{Val}
 use base.Logic.{SProp, ent}

@@ -1,1 +1,2 @@
 // What the walks by hand share: laws for proofs, no code.
+#![tactic(auto)]

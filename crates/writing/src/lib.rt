@@ -2,6 +2,8 @@
 //
 // Each call is given the text and the place where it goes, and answers the place behind it. Bytes for which the text has no
 // room are left out, so no call asks for room.
+#![tactic(auto)]
+
 ghost use Rattle.std.specs.Prelude.{◌∷◌, []};
 ghost use Rattle.writing.specs.Writing.{Puts};
 
