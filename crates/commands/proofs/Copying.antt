@@ -1,5 +1,5 @@
 -- What is copied so far stands in front, and the cells behind it stay.
-use Rattle.std.proofs.Common.{◌≡◌, ap, ◌∙◌, List, ◌++◌, ℕ, suc, ◌+◌, ◌-◌, ◌≤◌, ◌<◌, arith, length, get_or, set, take, drop}
+use Rattle.std.proofs.Common.{◌≡◌, ap, ◌∙◌, List, ◌++◌, ℕ, suc, ◌+◌, ◌≤◌, ◌<◌, arith, length, get_or, set, take, drop}
 use Rattle.std.proofs.Math.Seq.{paste, paste-zero, paste-suc, length-paste}
 
 pub copied_none : (out cells : List ℕ) → out ≡ paste out 0 cells 0

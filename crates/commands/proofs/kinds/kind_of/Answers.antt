@@ -1,6 +1,6 @@
 -- Each arm is the row of its kind, and the last arm is for what stands behind the table.
-use Rattle.std.proofs.Common.{◌≡◌, ℕ, suc, ◌≤◌, sym, ap, ◌∙◌, arith}
-use Rattle.commands.specs.Kinds.{Kind, unknown, kind_at, behind_last}
+use Rattle.std.proofs.Common.{◌≡◌, ℕ, sym, ap, ◌∙◌, arith}
+use Rattle.commands.specs.Kinds.{Kind, kind_at, behind_last}
 use Rattle.commands.proofs.kinds.kind_of.Goals as goal
 
 here : {n k : ℕ} {r : Kind} → r ≡ kind_at n → k ≡ n → r ≡ kind_at k
