@@ -40,7 +40,7 @@ loop-slot-preserved c =
     let some = c.if-size-eq0.false in
     let u : Used (slot_here c.args.table.now c.loop-slot.slot) = c.is_used.ensures.yes c.if-not-is_used.false in
     let b = c.loop-slot.invariant.1 in
-    let missing = new_name t s _ first some u b c.find_in.result c.find_in.ensures c.if-find_in-slot.false in
+    let missing = new_name t s _ first some u b c.find_in.result c.find_in.ensures (omega arith) in
     let here = bucket_here t s _ first some u c.bucket-h.result c.bucket-h.ensures.0 in (
       omega arith,
       begins_more t s _ first some u b missing,
