@@ -9,7 +9,7 @@ returns-then-text-i-eq10 c =
 
 pub loop-i-preserved : goal.loop-i-preserved
 loop-i-preserved c =
-    (omega arith, omega arith, comment_on _ _ c.loop-i-test.true c.if-text-i-eq10.false ∙ c.loop-i.invariant.2)
+    (omega arith, omega arith, comment_on _ _ c.loop-i-test.true (λ e. omega arith) ∙ c.loop-i.invariant.2)
 
 pub returns : goal.returns
 returns c = (omega arith, omega arith, comment_over _ _ c.loop-i-test.false ∙ c.loop-i.invariant.2)
