@@ -1,5 +1,5 @@
 -- What is marked so far and the siblings still to come are all of them, and each turn marks one.
-use Rattle.std.proofs.Common.{◌≡◌, refl, List, ℕ, ◌≤◌, length, arith}
+use Rattle.std.proofs.Common.{◌≡◌, List, ℕ, ◌≤◌, length, arith}
 use Rattle.layout.specs.Layout.{last_link, book_words}
 use Rattle.questions.specs.Promises.{Threaded}
 use Rattle.questions.proofs.Threads.{in_tree}

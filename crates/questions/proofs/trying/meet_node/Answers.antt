@@ -1,5 +1,5 @@
 -- Siblings at which the machine fails are skipped; then there is no node, or the two cells meet and the machine goes on, or it fails.
-use Rattle.std.proofs.Common.{◌≡◌, refl, sym, subst, Bool, List, [], ℕ, ◌^◌, ◌<◌, ◌≤◌, get_or, length, arith}
+use Rattle.std.proofs.Common.{◌≡◌, sym, subst, Bool, List, [], ℕ, ◌^◌, ◌<◌, ◌≤◌, get_or, length, arith}
 use Rattle.layout.specs.Layout.{last_link, book_words}
 use Rattle.questions.specs.Promises.{Skips, Left, Ready, Decisive, LastWanted, Sought}
 use Rattle.questions.proofs.Threads.{in_tree}

@@ -1,6 +1,6 @@
 -- The cases are a node that is passed or fills the question's cell, rules that answer, and a cell that is wanted.
-use Rattle.std.proofs.Common.{◌≡◌, sym, subst, List, [], ℕ, arith}
-use Rattle.questions.specs.Promises.{siblings, Ready, Left}
+use Rattle.std.proofs.Common.{◌≡◌, sym, subst, [], ℕ, arith}
+use Rattle.questions.specs.Promises.{siblings, Left}
 use Rattle.questions.proofs.Threads.{in_tree}
 use Rattle.questions.proofs.Leaving.{all_gone, passing, filling}
 use Rattle.questions.proofs.Marking.{marks_none, all_answer, numbered}

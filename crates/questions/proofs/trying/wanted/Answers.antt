@@ -1,6 +1,5 @@
 -- A symbol is the one wanted; a blank that may not be filled is met by blanks alone.
-use Rattle.std.proofs.Common.{refl}
-use Rattle.questions.proofs.Siblings.{one_symbol, no_symbols, any_cell}
+use Rattle.questions.proofs.Siblings.{one_symbol, no_symbols}
 use Rattle.questions.proofs.trying.wanted.Goals as goal
 
 pub returns-then-c-lt-MARK : goal.returns-then-c-lt-MARK
