@@ -3,6 +3,9 @@ TYPED ?= examples/lamp.rules
 SECONDS ?= 60
 SEED ?= 1
 
+# All that a proof reads. What was made later than all of it was written is not made anew.
+SOURCES := crates.txt $(shell find crates/*/src crates/*/specs crates/*/proofs)
+
 SHOW := cargo run --offline --quiet --manifest-path rust/Cargo.toml -p show -- target/session
 
 # The archive and the session program are for x86-64. On another processor the kit's emulator runs programs (x86/run), and
@@ -34,9 +37,13 @@ test:
 prove:
 	rt check
 
-archive:
-	@mkdir -p target
-	@log=target/staticlib.log; rt staticlib claggyfoot >$$log 2>&1 || { cat $$log; exit 1; }
+archive: target/staticlib/libclaggyfoot.a
+
+# rt names an archive after its crate.
+target/staticlib/libclaggyfoot.a: $(SOURCES)
+	@mkdir -p target/staticlib
+	@log='$(CURDIR)/target/staticlib.log'; cd crates/claggyfoot_c && rt lib >"$$log" 2>&1 || { cat "$$log"; exit 1; }
+	@cp crates/claggyfoot_c/out/libclaggyfoot_c.a $@
 
 # target/NAME runs target/bin/NAME, on this processor or by the emulator.
 runs = printf '\#!/bin/sh\nexec "%s/x86/run" "%s/target/bin/$(1)"\n' '$(CURDIR)' '$(CURDIR)' >target/$(1) && chmod +x target/$(1)
