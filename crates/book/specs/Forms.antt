@@ -2,8 +2,8 @@
 use Rattle.std.specs.Prelude.{◌≡◌, refl, List, [], ◌∷◌, ◌++◌, map, Bool, true, false, ℕ, ◌≤◌, ◌<◌, eqb, ltb}
 use Rattle.std.proofs.Common.{sym, ap, ◌∙◌, append-nil, arith, ltb-true, ltb-false, ne_eqb, eq-eqb}
 use Rattle.deciding.specs.Deciding.{pick}
-use Rattle.term.specs.Cells.{symb, Row, Blank, blank, star, Terms, blank_of, blank_form, number_of}
-use Rattle.term.specs.Beginnings.{nodes, same_cell, node_count}
+use Rattle.term.specs.Cells.{symb, Row, Blank, star, Terms, blank_of, blank_form, number_of}
+use Rattle.term.specs.Beginnings.{same_cell, node_count}
 use Rattle.term.specs.Counting.{nodes_map, cons_eq}
 use Rattle.term.specs.Preorder.{same_rest}
 use Rattle.shape.specs.NodeCount.{node_count_is}

@@ -17,7 +17,7 @@ module _ {A : Type 0} (f : ℕ → List A) where
 
   pub of_each : (n k : ℕ) {x : A} → Memᴰ x (each f n k) → Gathered n k x
   unfolding each
-  of_each zero k i = absurd (Memᴰ.not_nil i)
+  of_each zero k i = absurd (Memᴰ.not-nil i)
   of_each (suc n) k {x} i = go (λ (j : Memᴰ x (each f n (suc k))). of_each n (suc k) j) (Memᴰ.append_cases (f k) i)
     where
       go : (Memᴰ x (each f n (suc k)) → Gathered n (suc k) x) → Memᴰ x (f k) ⊎ Memᴰ x (each f n (suc k)) → Gathered (suc n) k x
@@ -74,7 +74,7 @@ pub record Standing (rules : Rules) (t : List ℕ) : Type 0 where
   pub term_is : its.term ≡ t
 
 term_held : {t : List ℕ} (h : Held) → Memᴰ t (terms_of h) → (r : Rule) × (h ≡ rule r) × (r.term ≡ t)
-term_held nothing i = absurd (Memᴰ.not_nil i)
+term_held nothing i = absurd (Memᴰ.not-nil i)
 term_held (rule r) i = (r, refl, sym (Memᴰ.eq_of_singleton i))
 
 pub terms_standing : (rules : Rules) (t : List ℕ) → Memᴰ t (terms rules) ↔ Standing rules t

@@ -17,7 +17,7 @@ use Rattle.shape.specs.Leaves.{Leaf, end_of, ends, bases, Hanging, numbered}
 use Rattle.shape.specs.NodeCount.{nodes_are}
 use Rattle.book.specs.Rules.{Rule, Held, nothing, rule, Rules, is_held, terms_of, each, terms, rule_count, nodes_of}
 use Rattle.book.specs.Gathered.{terms_standing, rule_inj, not_rule}
-use Rattle.book.specs.Memory.{View, taken, number, term, rule_at, form, form_of, leaf, leaves, held_at, rules_of, Right}
+use Rattle.book.specs.Memory.{View, taken, number, term, rule_at, form_of, leaf, leaves, held_at, rules_of, Right}
 use Rattle.book.specs.Forms.{form_free, count_forms}
 
 -- The end of the rule at a place.

@@ -1,5 +1,5 @@
 -- The rules that a book holds, and what is counted of them: Reference 5, and refusals 6 to 9.
-use Rattle.std.specs.Prelude.{List, [], ◌∷◌, ◌++◌, Bool, true, false, ℕ, zero, suc, ◌+◌, eqb, leb, ltb, length}
+use Rattle.std.specs.Prelude.{List, [], ◌∷◌, ◌++◌, Bool, true, false, ℕ, zero, suc, eqb, leb, ltb, length}
 use Rattle.deciding.specs.Deciding.{pick}
 use Rattle.layout.specs.Layout.{rule_numbers, nodes_limit, rules_limit}
 use Rattle.term.specs.Beginnings.{node_count}

@@ -32,7 +32,7 @@ use Rattle.book.specs.Rules.{Rule, Held, nothing, rule, Rules, is_held, with_rul
 use Rattle.book.specs.declared.Added.{Added as Answer}
 use Rattle.book.specs.declared.Added.TheVariants as answer
 use Rattle.book.specs.Gathered.{Standing, terms_standing, rule_inj, not_rule}
-use Rattle.book.specs.Memory.{View, view, taken, number, term, form, form_of, leaf, leaves, Passing, rules_in}
+use Rattle.book.specs.Memory.{View, view, taken, term, form_of, leaf, leaves, Passing, rules_in}
 use Rattle.book.specs.Forms.{form_free, count_forms}
 use Rattle.book.specs.Holding.{rules_tally, count_tally, hanging, base_forms, at_holds, term_stands_at}
 use Rattle.change.specs.Change.{Added, added_right, added_rules}
@@ -47,7 +47,7 @@ no_change : (m : Shape) → TakesLowest m m
 no_change m = record { kept = λ n l u. u; lowest = λ n l f u. absurd (true_not_false u f) }
 
 -- a chain takes the lowest free node each time
-grown_kept : {m₀ m : Shape} {l₀ l : ℕ} {row : List ℕ} → Grown m₀ l₀ row m l → (n : ℕ) → m₀.used n ≡ true → m.used n ≡ true
+grown_kept : {m₀ : Shape} {l₀ : ℕ} {m : Shape} {l : ℕ} {row : List ℕ} → Grown m₀ l₀ row m l → (n : ℕ) → m₀.used n ≡ true → m.used n ≡ true
 grown_kept none n u = u
 grown_kept (more {m = m} {m' = m'} {n = x} s g lo so o k) n u = go (ℕ_discrete n x) (grown_kept g n u)
   where
@@ -55,7 +55,7 @@ grown_kept (more {m = m} {m' = m'} {n = x} s g lo so o k) n u = go (ℕ_discrete
     go (yes e) i = ap m'.used e ∙ k.now
     go (no e) i = k.kept.used n e ∙ i
 
-grown_lowest : {m₀ m : Shape} {l₀ l : ℕ} {row : List ℕ} → Grown m₀ l₀ row m l → (n : ℕ) → m₀.used n ≡ false → m.used n ≡ true → (j : ℕ) → j < n → m.used j ≡ true
+grown_lowest : {m₀ : Shape} {l₀ : ℕ} {m : Shape} {l : ℕ} {row : List ℕ} → Grown m₀ l₀ row m l → (n : ℕ) → m₀.used n ≡ false → m.used n ≡ true → (j : ℕ) → j < n → m.used j ≡ true
 grown_lowest none n f u j h = absurd (true_not_false u f)
 grown_lowest (more {m = m} {m' = m'} {n = x} s g lo so o k) n f u j h = by (ℕ_discrete j x) (λ i. grown_lowest g n f i j h)
   where

@@ -1,10 +1,6 @@
 -- What is copied so far stands in front, and the cells behind it stay.
-use mathlib.Core.Path.{◌≡◌, ap, ◌∙◌}
-use mathlib.Core.List.{List, ◌++◌}
-use Prim.Native.Nat.{ℕ, suc, ◌+◌, ◌-◌, ◌≤◌, ◌<◌}
-use native.Mathlib.Omega.{arith}
-use lib.ListN.{length, get_or, set, take, drop}
-use lib.Seq.{paste, paste-zero, paste-suc, length-paste}
+use Rattle.std.proofs.Common.{◌≡◌, ap, ◌∙◌, List, ◌++◌, ℕ, suc, ◌+◌, ◌≤◌, ◌<◌, arith, length, get_or, set, take, drop}
+use Rattle.std.proofs.Math.Seq.{paste, paste-zero, paste-suc, length-paste}
 
 pub copied_none : (out cells : List ℕ) → out ≡ paste out 0 cells 0
 copied_none out cells = paste-zero out 0 cells

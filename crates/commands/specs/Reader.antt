@@ -1,5 +1,5 @@
 -- The next cell of a reader, and the place behind it.
-use Rattle.std.specs.Prelude.{◌≡◌, List, [], ◌∷◌, Bool, true, false, ℕ, ◌+◌, ◌≤◌, ◌<◌, ltb, length, get_or, drop}
+use Rattle.std.specs.Prelude.{◌≡◌, List, [], ◌∷◌, ℕ, ◌+◌, ◌≤◌, ◌<◌, ltb, length, get_or, drop}
 use Rattle.std.proofs.Common.{sym, ap, drop_of_length-le, drop-cons}
 use Rattle.deciding.specs.Deciding.{pick}
 pub use Rattle.commands.specs.declared.reader.Next.{Next}

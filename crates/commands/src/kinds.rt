@@ -3,7 +3,7 @@ ghost use Rattle.std.specs.Prelude.{◌≡◌};
 ghost use Rattle.commands.specs.Kinds.{known, kind_at};
 
 // What a command does.
-#[derive(Drop)]
+#[derive(Clone, Copy)]
 pub enum Act {
     // There is no such kind.
     Unknown,
@@ -15,7 +15,7 @@ pub enum Act {
     Room,
 }
 
-#[derive(Drop)]
+#[derive(Clone, Copy)]
 pub struct Kind {
     pub act: Act,
     pub known: bool,

@@ -12,7 +12,7 @@ use term::reading::Reading;
 
 // A command as it was read: what to do, under which number, and how many of the cells behind its command cell are its term; and
 // the refusal with which it stops the batch, or 0.
-#[derive(Drop)]
+#[derive(Clone, Copy)]
 pub struct Command {
     pub act: Act,
     pub number: u16,
@@ -116,7 +116,7 @@ fn command_of(next: Next, cells: &[u16], at: usize) -> Command
 }
 
 // Cells and a place in them.
-#[derive(Drop)]
+#[derive(Clone, Copy)]
 pub struct Reader<'a> {
     pub cells: &'a [u16],
     pub at: usize,

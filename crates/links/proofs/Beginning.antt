@@ -1,19 +1,12 @@
 -- Where to begin: at the first child, or at one further on than that
 use mathlib.Core.Path.{◌≡◌, refl, sym, ap, ◌∙◌, subst}
 use mathlib.Core.Logic.{◌⊎◌, inl, inr}
-use mathlib.Core.List.{List, [], ◌∷◌, reverse, reverse-append}
-use Prim.Native.Nat.{ℕ, zero, suc, ◌+◌, ◌-◌, ◌≤◌, ◌<◌}
-use native.Mathlib.Numerals.{add-one}
+use mathlib.Core.List.{List}
+use Prim.Native.Nat.{ℕ, zero, suc, ◌-◌, ◌≤◌, ◌<◌}
 use native.Mathlib.Omega.{arith}
-use lib.ListN.{length, get_or, take}
-use lib.Seq.{take-suc}
-use Rattle.layout.specs.Layout.{last_link, tree_words}
-use Rattle.shape.specs.Basics.{up_live}
-use Rattle.shape.specs.Shape.{Shape, Hook, child, after, Used, Valid, to, owner, floor, Fits, Up, top, down, Tree}
-use Rattle.shape.specs.Order.{ahead}
-use Rattle.shape.specs.Change.{Sorted}
-use Rattle.links.specs.Words.{cell_of, parent_of, first_of, next_of, word, shape, hook}
-use Rattle.links.specs.Limits.{used_low, live_low, hook_low}
+use Rattle.layout.specs.Layout.{last_link}
+use Rattle.shape.specs.Shape.{child, Fits}
+use Rattle.links.specs.Words.{cell_of, parent_of, first_of, word, shape}
 use Rattle.links.specs.Siblings.{Before, Further, Ready, link_low}
 
 pub first_link : (ws : List ℕ) (p x : ℕ) → Ready ws p → x ≡ first_of (word ws p) → x ≤ last_link

@@ -79,7 +79,7 @@ module _ (ws : List ℕ) (size : length ws ≡ tree_words) where
 -- an empty tree passes with no ends
 pub empty_passes : (m : Shape) → ((n : ℕ) → m.used n ≡ false) → m.first 0 ≡ 0 → Passes m []
 empty_passes m free none = record
-    { goes = go; comes = λ n u. absurd (true_not_false u (free n)); ways = λ x i. absurd (Memᴰ.not_nil i); covered = λ n u. absurd (true_not_false u (free n)) }
+    { goes = go; comes = λ n u. absurd (true_not_false u (free n)); ways = λ x i. absurd (Memᴰ.not-nil i); covered = λ n u. absurd (true_not_false u (free n)) }
   where
     go : (s : Hook) → Valid m s → {n : ℕ} → to m s ≡ suc n → Fits m s n
     go (child zero) v e = absurd (omega (arith, sym none ∙ e))

@@ -1,13 +1,8 @@
 -- Cells made from pairs of bytes: what is still to be made leads to the same cells.
-use mathlib.Core.Path.{◌≡◌, refl, sym, ap, ap₂, ◌∙◌}
-use mathlib.Core.List.{List, [], ◌∷◌}
-use mathlib.Core.Bool.{Bool, true, false}
-use Prim.Native.Nat.{ℕ, suc, ◌+◌, ◌*◌, ◌/◌, ◌≤◌, ◌<◌, min}
-use native.Mathlib.Omega.{arith}
+use Rattle.std.proofs.Common.{◌≡◌, refl, sym, ap, ap₂, ◌∙◌, List, [], ◌∷◌, Bool, true, false, ℕ, suc, ◌+◌, ◌*◌, ◌/◌, ◌≤◌, ◌<◌, min, arith, length, drop, get_or, set, length-drop}
+use Rattle.std.specs.Prelude.{leb}
+use Rattle.std.proofs.Math.Seq.{sets, set_out}
 use borrow.Author.Tests.{leb-true, leb-false}
-use lib.Dec.{leb}
-use lib.ListN.{length, drop, get_or, set, length-drop}
-use lib.Seq.{sets, set_out}
 use Rattle.listing.specs.Listing.{cells_in}
 use Rattle.writing.specs.Putting.{one_more}
 

@@ -1,13 +1,9 @@
 -- The record that stands at a place in the cells, as the code takes it: no more cells than there are.
-use mathlib.Core.Path.{◌≡◌, refl, sym, ap, ap₂, ◌∙◌}
-use mathlib.Core.List.{List, ◌∷◌}
-use mathlib.Core.Bool.{Bool, true, false}
-use Prim.Native.Nat.{ℕ, ◌+◌, ◌-◌, ◌/◌, ◌%◌, ◌<◌, min}
-use native.Mathlib.Omega.{arith}
+use Rattle.std.proofs.Common.{◌≡◌, refl, sym, ap, ap₂, ◌∙◌, List, ◌∷◌, Bool, true, false, ℕ, ◌+◌, ◌-◌, ◌/◌, ◌%◌, ◌<◌, min, arith, length, take, drop, get_or, length-drop}
+use Rattle.std.proofs.Math.ListN.{drop_of_length-le}
+use Rattle.std.proofs.Math.Seq.{take_all, take-length, drop-length, drop-drop}
+use Rattle.std.specs.Prelude.{leb}
 use borrow.Author.Tests.{leb-true, leb-false}
-use lib.Dec.{leb}
-use lib.ListN.{length, take, drop, get_or, length-drop, drop_of_length-le}
-use lib.Seq.{take_all, take-length, drop-length, drop-drop}
 use Rattle.listing.specs.Listing.{records_in}
 use Rattle.listing.specs.Reading.{first_record}
 use Rattle.writing.specs.Putting.{one_more}

@@ -92,7 +92,7 @@ module _ (ws left : List ℕ) (size : length ws ≡ book_words) (el : left ≡ t
     above = refl;
     deep = refl;
     short = omega arith;
-    cells = λ c i. absurd (Memᴰ.not_nil i);
+    cells = λ c i. absurd (Memᴰ.not-nil i);
     stuck = λ q. absurd (z q);
     stacked = none;
     kept = none refl refl;

@@ -80,7 +80,7 @@ wants_rest (c ∷ p) u h t =
     count k e i = omega arith
 
 in_reverse : (p : List ℕ) {a : ℕ} → Memᴰ a p → Memᴰ a (reverse p)
-in_reverse [] i = absurd (Memᴰ.not_nil i)
+in_reverse [] i = absurd (Memᴰ.not-nil i)
 in_reverse (d ∷ p) {a} i = subst (λ (z : List ℕ). Memᴰ a z) (sym (reverse-cons d p)) (go (λ j. in_reverse p j) (Memᴰ.cases_cons i))
   where
     go : (Memᴰ a p → Memᴰ a (reverse p)) → (a ≡ d) ⊎ Memᴰ a p → Memᴰ a (reverse p ++ (d ∷ []))

@@ -125,7 +125,7 @@ module _ (fq fr : Bool) (ws q : List ℕ) (words : (i : ℕ) → get_or ws i 0 <
     short = r.short;
     inside = inside;
     few = (let h = ap height (tip_at ws) in omega arith);
-    low = λ n i. absurd (Memᴰ.not_nil (subst (Memᴰ n) (nothing_at fq fr ws q (record { link = 0; skip = skip; place = place }) refl) i));
+    low = λ n i. absurd (Memᴰ.not-nil (subst (Memᴰ n) (nothing_at fq fr ws q (record { link = 0; skip = skip; place = place }) refl) i));
   }
 
   pub few_here : p.skip ≤ 231

@@ -31,7 +31,7 @@ marks_none ws marks s = record { map = s; marks_are = λ k. ((λ x. inl x), of k
   where
     of : (k : ℕ) → Member marks k ⊎ ((n : ℕ) × Memᴰ n [] × ((view ws).tree.cell n ≡ k)) → Member marks k
     of k (inl x) = x
-    of k (inr x) = absurd (Memᴰ.not_nil x.1)
+    of k (inr x) = absurd (Memᴰ.not-nil x.1)
 
 -- one
 pub marks_one : (ws marks marks' : List ℕ) (n c : ℕ) → (view ws).tree.cell n ≡ c → PutsNumber marks marks' c → Marked ws marks marks' (n ∷ [])

@@ -14,7 +14,7 @@ use Rattle.questions.specs.Asking.{BeforeAll, Ordered, keep_if, numbers, numbers
 
 kept : (b : Bool) (k j : ℕ) → Memᴰ j (keep_if b k) → (k ≡ j) × T b
 kept true k j i = (sym (Memᴰ.eq_of_singleton i), tt)
-kept false k j i = absurd (Memᴰ.not_nil i)
+kept false k j i = absurd (Memᴰ.not-nil i)
 
 keeps : (b : Bool) (k : ℕ) → T b → Memᴰ k (keep_if b k)
 keeps true k h = Memᴰ.head refl

@@ -58,7 +58,7 @@ module _ (m : Shape) (Bare : Hook → Type 0) (Told : ℕ → List ℕ → Type 
   start = record {
     within = λ n u. u;
     known = λ s i. at s (Memᴰ.cases_cons i);
-    once = ((λ i. Memᴰ.not_nil i), tt);
+    once = ((λ i. Memᴰ.not-nil i), tt);
     each = each;
     from = λ n s. absurd (none n s);
     rows = λ n s. absurd (none n s);
@@ -69,7 +69,7 @@ module _ (m : Shape) (Bare : Hook → Type 0) (Told : ℕ → List ℕ → Type 
 
       at : (s : Hook) → (s ≡ child 0) ⊎ Memᴰ s [] → Known m m.used s
       at s (inl e) = subst (λ (z : Hook). Known m m.used z) (sym e) tt
-      at s (inr i) = absurd (Memᴰ.not_nil i)
+      at s (inr i) = absurd (Memᴰ.not-nil i)
 
       each : (s : Hook) → Known m m.used s → Memᴰ s (child 0 ∷ []) ⊎ Done m Bare m.used s
       each (child zero) k = inl (Memᴰ.head refl)
@@ -228,7 +228,7 @@ module _ (m : Shape) (Bare : Hook → Type 0) (Told : ℕ → List ℕ → Type 
     done s k = go (w.each s k)
       where
         go : Memᴰ s [] ⊎ Done m Bare left s → Done m Bare left s
-        go (inl i) = absurd (Memᴰ.not_nil i)
+        go (inl i) = absurd (Memᴰ.not-nil i)
         go (inr d) = d
 
     -- where a hook that is done leads

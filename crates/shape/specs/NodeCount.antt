@@ -39,7 +39,7 @@ to_inits f p s h e = go (Memᴰ.append_cases (inits f) (to_beginnings (f ∷ [])
   where
     go : Memᴰ p (inits f) ⊎ Memᴰ p [] → Memᴰ p (inits f)
     go (inl i) = i
-    go (inr i) = absurd (Memᴰ.not_nil i)
+    go (inr i) = absurd (Memᴰ.not-nil i)
 
 -- a beginning of s ++ t is one of s, or s and one of t
 data Cut (p s t : List ℕ) : Type 0 where

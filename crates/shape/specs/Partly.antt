@@ -117,23 +117,23 @@ module _ (m m' : Shape) (ends : List End) (s : Hook) (c n : ℕ) (r : List ℕ) 
       cov y u (yes e) = inr (subst (λ (z : ℕ). On m' z (suc n)) (sym e) here)
       cov y u (no e) = old y (p.covered y (sym (k.kept.used y e) ∙ u))
 
-pub grown_tree : {m₀ m : Shape} {l₀ l : ℕ} {r : List ℕ} → Tree m₀ → Grown m₀ l₀ r m l → Tree m
+pub grown_tree : {m₀ : Shape} {l₀ : ℕ} {m : Shape} {l : ℕ} {r : List ℕ} → Tree m₀ → Grown m₀ l₀ r m l → Tree m
 grown_tree t none = t
 grown_tree t (more {m = m} {m' = m'} {c = c} {n = n} s g lo so o k) = link_tree m m' s c n (grown_tree t g) so k
 
 -- the chain's last link has its own row
-pub grown_up : {m₀ m : Shape} {l₀ l : ℕ} {r q : List ℕ} → Tree m₀ → Grown m₀ l₀ r m l → Up m₀ l₀ q → Up m l (r ++ q)
+pub grown_up : {m₀ : Shape} {l₀ : ℕ} {m : Shape} {l : ℕ} {r q : List ℕ} → Tree m₀ → Grown m₀ l₀ r m l → Up m₀ l₀ q → Up m l (r ++ q)
 grown_up t none u = u
 grown_up {q = q} t (more {r = r} {m = m} {m' = m'} {c = c} {n = n} s g lo so o k) u =
     link_new m m' s c n (grown_tree t g) so k (subst (λ (z : ℕ). Up m z (r ++ q)) (sym o) (grown_up t g u))
 
-pub grown_partly : {m₀ m : Shape} {ends : List End} {l₀ l : ℕ} {r q : List ℕ} → Grown m₀ l₀ r m l → Partly m₀ ends l₀ q → Partly m ends l (r ++ q)
+pub grown_partly : {m₀ : Shape} {ends : List End} {l₀ : ℕ} {m : Shape} {l : ℕ} {r q : List ℕ} → Grown m₀ l₀ r m l → Partly m₀ ends l₀ q → Partly m ends l (r ++ q)
 grown_partly none p = p
 grown_partly {ends = ends} {q = q} (more {r = r} {m = m} {m' = m'} {c = c} {n = n} s g lo so o k) p =
     link_partly m m' ends s c n (r ++ q) (subst (λ (z : ℕ). Partly m ends z (r ++ q)) (sym o) (grown_partly g p)) so k
 
 -- what is said of rules, which are no nodes of forms, stays
-pub grown_rules : {m₀ m : Shape} {l₀ l : ℕ} {r : List ℕ} → Grown m₀ l₀ r m l → (y : ℕ) → nodes_limit ≤ y → (m.used y ≡ m₀.used y) × (m.cell y ≡ m₀.cell y)
+pub grown_rules : {m₀ : Shape} {l₀ : ℕ} {m : Shape} {l : ℕ} {r : List ℕ} → Grown m₀ l₀ r m l → (y : ℕ) → nodes_limit ≤ y → (m.used y ≡ m₀.used y) × (m.cell y ≡ m₀.cell y)
 grown_rules none y h = (refl, refl)
 grown_rules (more {n = n} s g lo so o k) y h =
     let q = grown_rules g y h in

@@ -22,8 +22,8 @@ kept true n k i = go (Memᴰ.cases_cons i)
   where
     go : (k ≡ n) ⊎ Memᴰ k [] → (k ≡ n) × (true ≡ true)
     go (inl e) = (e, refl)
-    go (inr j) = absurd (Memᴰ.not_nil j)
-kept false n k i = absurd (Memᴰ.not_nil i)
+    go (inr j) = absurd (Memᴰ.not-nil j)
+kept false n k i = absurd (Memᴰ.not-nil i)
 
 keeps : (b : Bool) (n : ℕ) → b ≡ true → Memᴰ n (keep b n)
 keeps true n e = Memᴰ.head refl
@@ -69,7 +69,7 @@ module _ {S : Type 0} (step : ℕ → S → S) (good : S → Bool) where
 
   of_accepted : (s : S) (l : List (ℕ × List ℕ)) (n : ℕ) → Memᴰ n (accepted s l) → (r : List ℕ) × Memᴰ (n, r) l × (good (after_row s r) ≡ true)
   unfolding accepted
-  of_accepted s [] n i = absurd (Memᴰ.not_nil i)
+  of_accepted s [] n i = absurd (Memᴰ.not-nil i)
   of_accepted s (x ∷ xs) n i = go (λ (j : Memᴰ n (accepted s xs)). of_accepted s xs n j) (Memᴰ.append_cases (keep (good (after_row s x.1)) x.0) i)
     where
       go : (Memᴰ n (accepted s xs) → (r : List ℕ) × Memᴰ (n, r) xs × (good (after_row s r) ≡ true))
@@ -79,6 +79,7 @@ module _ {S : Type 0} (step : ℕ → S → S) (good : S → Bool) where
 
   to_accepted : (s : S) (l : List (ℕ × List ℕ)) (n : ℕ) (r : List ℕ) → Memᴰ (n, r) l → good (after_row s r) ≡ true → Memᴰ n (accepted s l)
   unfolding accepted
+  to_accepted s [] n r x' h = elim x' [ ]
   to_accepted s (x ∷ xs) n r (Memᴰ.head e) h =
       Memᴰ.append_left (accepted s xs)
       (Memᴰ.cast (ap (λ (z : ℕ × List ℕ). z.0) e) (keeps (good (after_row s x.1)) x.0 (ap (λ (z : ℕ × List ℕ). good (after_row s z.1)) (sym e) ∙ h)))

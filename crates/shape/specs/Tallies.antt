@@ -34,7 +34,7 @@ module _ (u : ℕ → Bool) where
       puts false = omega arith
 
   pub of_listed : (n : ℕ) {x : ℕ} → Memᴰ x (listed u n) → (u x ≡ true) × (x < n)
-  of_listed zero i = absurd (Memᴰ.not_nil i)
+  of_listed zero i = absurd (Memᴰ.not-nil i)
   of_listed (suc n) {x} i = go (λ (j : Memᴰ x (listed u n)). of_listed n j) (put_member (u n) n (listed u n) i)
     where
       go : (Memᴰ x (listed u n) → (u x ≡ true) × (x < n)) → ((u n ≡ true) × (x ≡ n)) ⊎ Memᴰ x (listed u n) → (u x ≡ true) × (x < suc n)

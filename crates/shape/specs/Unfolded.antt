@@ -120,8 +120,8 @@ module _ (m : Shape) (t : Tree m) (P : ℕ → Type 0)
 module _ (m : Shape) (t : Tree m) where
   sound : (f l : ℕ) (p : List ℕ) → Under m p l → {x : ℕ × List ℕ} → Memᴰ x (rows m p (unfolded m f l)) → Up m (suc x.0) x.1
   unfolding unfolded
-  sound zero l p h i = absurd (mathlib.Core.List.Memᴰ.not_nil i)
-  sound (suc f) zero p h i = absurd (mathlib.Core.List.Memᴰ.not_nil i)
+  sound zero l p h i = absurd (mathlib.Core.List.Memᴰ.not-nil i)
+  sound (suc f) zero p h i = absurd (mathlib.Core.List.Memᴰ.not-nil i)
   sound (suc f) (suc n) p h {x} i = go (λ l p h i. sound f l p h i) (mathlib.Core.List.Memᴰ.cases_cons i)
     where
       q : Used m n × Up m (m.parent n) p

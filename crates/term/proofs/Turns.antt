@@ -1,14 +1,7 @@
 -- The reading, turn by turn, in the numbers that the loop has: each way out and the way on is one clause of `read_from`.
-use mathlib.Core.Path.{◌≡◌, refl, sym, ◌∙◌, subst}
-use mathlib.Core.List.{List, [], ◌∷◌}
-use mathlib.Core.Bool.{Bool, true, false}
-use Prim.Native.Nat.{ℕ, zero, suc, ◌+◌, ◌-◌, ◌/◌, ◌≤◌, ◌<◌}
-use native.Mathlib.Numerals.{add-one}
-use native.Mathlib.Omega.{arith}
+use Rattle.std.proofs.Common.{◌≡◌, refl, sym, ◌∙◌, subst, List, [], ◌∷◌, Bool, true, false, ℕ, zero, suc, ◌+◌, ◌-◌, ◌/◌, ◌≤◌, ◌<◌, add-one, arith, length, get_or, drop, drop-cons}
+use Rattle.std.specs.Prelude.{ltb, leb}
 use borrow.Author.Tests.{ltb-true}
-use lib.Dec.{ltb, leb}
-use lib.ListN.{length, drop, get_or}
-use lib.Seq.{drop-cons}
 use Rattle.deciding.specs.Deciding.{pick}
 use Rattle.term.specs.Reading.{Fault, Taken, Wants, Faulty, Whole, Refused, TooLong, CutShort, takes, go_on, read_from}
 

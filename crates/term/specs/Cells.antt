@@ -1,5 +1,5 @@
 -- Cells, rows and terms: Reference 2 and 3.
-use Rattle.std.specs.Prelude.{List, [], ◌∷◌, map, Bool, true, false, ℕ, zero, suc, ◌+◌, ◌-◌, ◌/◌, ◌<◌, ltb}
+use Rattle.std.specs.Prelude.{List, [], ◌∷◌, map, ℕ, zero, suc, ◌+◌, ◌-◌, ◌/◌, ◌<◌, ltb}
 use Rattle.deciding.specs.Deciding.{pick}
 
 -- A cell is a variable or a symbol. A symbol is its name number and its arity together, the 15 bits below a cell's first.

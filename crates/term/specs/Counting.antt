@@ -1,6 +1,6 @@
 -- The node count counts what it says: the rows counted are exactly the non-empty beginnings, each once; and it does not
 -- depend on how cells are written.
-use Rattle.std.specs.Prelude.{◌≡◌, refl, ◌⊎◌, ◌↔◌, Bool, true, false, not, ℕ, suc, ◌+◌}
+use Rattle.std.specs.Prelude.{◌≡◌, refl, ◌⊎◌, ◌↔◌, Bool, true, false, not, ℕ, suc}
 use Rattle.std.proofs.Common.{sym, ap₂, ◌∙◌, subst, inl, inr, arith}
 use Rattle.std.proofs.Math.Path.{ap}
 use mathlib.Core.List.Memᴰ
@@ -18,7 +18,7 @@ not_nil e = let z : ◌≡◌ {A = ℕ} 0 1 = cc in omega arith
 
 -- The beginnings of one row ..
 inits_begin : {A : Type 0} (f : List A) {p : List A} → Memᴰ p (inits f) → (¬ (p ≡ [])) × ((s : List A) × (p ++ s ≡ f))
-inits_begin [] i = absurd (Memᴰ.not_nil i)
+inits_begin [] i = absurd (Memᴰ.not-nil i)
 inits_begin {A} (c ∷ f) {p} i = go (λ q j. inits_begin f {p = q} j) (Memᴰ.cases_cons i)
   where
     go : ((q : List A) → Memᴰ q (inits f) → (¬ (q ≡ [])) × ((s : List A) × (q ++ s ≡ f)))
@@ -53,7 +53,7 @@ inits_length (c ∷ f) = ap suc (map_length (λ p. c ∷ p) (inits f) ∙ inits_
 
 -- .. and of some rows
 pub of_beginnings : {A : Type 0} (forms : List (List A)) {p : List A} → Memᴰ p (beginnings forms) → Begins p forms
-of_beginnings [] i = absurd (Memᴰ.not_nil i)
+of_beginnings [] i = absurd (Memᴰ.not-nil i)
 of_beginnings (f ∷ fs) {p} i = go (λ j. of_beginnings fs j) (Memᴰ.append_cases (inits f) i)
   where
     go : (Memᴰ p (beginnings fs) → Begins p fs) → Memᴰ p (inits f) ⊎ Memᴰ p (beginnings fs) → Begins p (f ∷ fs)
@@ -61,6 +61,7 @@ of_beginnings (f ∷ fs) {p} i = go (λ j. of_beginnings fs j) (Memᴰ.append_ca
     go ih (inr j) = let q = ih j in record { form = q.form; among = Memᴰ.tail q.among; rest = q.rest; is = q.is; not_empty = q.not_empty }
 
 form_inits : {A : Type 0} (forms : List (List A)) {f p : List A} → Memᴰ f forms → Memᴰ p (inits f) → Memᴰ p (beginnings forms)
+form_inits [] i j = elim i [ ]
 form_inits (g ∷ gs) {p} (Memᴰ.head e) i = Memᴰ.append_left (beginnings gs) (subst (λ z. Memᴰ p (inits z)) e i)
 form_inits (g ∷ gs) (Memᴰ.tail j) i = Memᴰ.append_right (inits g) (form_inits gs j i)
 
@@ -96,6 +97,7 @@ module _ {A : Type 0} (same : A → A → Bool) (sound : (a b : A) → same a b 
   either_right false c e = e
 
   member_has : (rs : List (List A)) (p : List A) → Memᴰ p rs → has same rs p ≡ true
+  member_has [] p i = elim i [ ]
   member_has (r ∷ rs) p (Memᴰ.head e) = ap (λ (b : Bool). either b (has same rs p)) (ap (λ (z : List A). same_rows same z p) (sym e) ∙ row_same p)
   member_has (r ∷ rs) p (Memᴰ.tail i) = either_right (same_rows same r p) (has same rs p) (member_has rs p i)
 

@@ -2,7 +2,7 @@
 use Rattle.std.specs.Prelude.{◌≡◌, refl, ◌↔◌, true, false, ℕ, zero, suc, ◌+◌, ◌/◌, ◌≤◌, T, length}
 use Rattle.std.proofs.Common.{sym, ap, ◌∙◌, subst, zero-add, arith}
 use mathlib.Core.List.{[], ◌∷◌, ◌++◌, append_assoc, head-eq_of_cons-eq, tail-eq_of_cons-eq}
-use Rattle.term.specs.Cells.{Cell, vari, symb, Row, Blank, blank, star, Terms, none, more}
+use Rattle.term.specs.Cells.{Cell, vari, symb, Row, Blank, blank, star, arity, Terms, none, more}
 use Rattle.term.specs.Questions.{Filling, fill, Mode, variants, instances, generalisations, unifiables, Answers}
 use Rattle.term.specs.Machine.{accepts}
 use Rattle.term.specs.Preorder.{recount, Cut, cut, terms_append, no_cell, empty_none, open_row, shorter, same_rest}
@@ -98,8 +98,8 @@ joined (right {t} h w x) = let i = joined x in (t ++ i.0, fill_append (fill_self
 -- .. and back: where both are filled to one row, a blank of one side meets one whole term of the other
 fill_terms : {k : ℕ} {s u : Row Blank} → Fill s u → Terms k s → Terms k u
 fill_terms nil t = t
-fill_terms (keep x) (more p t) = more p (fill_terms x t)
-fill_terms (put w x) (more {n} p t) = recount (omega arith) (terms_append w (fill_terms x (recount (zero-add n) t)))
+fill_terms (keep {c} x) (more {n} p t) = more p (fill_terms {k = arity {X = Blank} (symb c) + n} x t)
+fill_terms (put w x) (more {n} p t) = recount (omega arith) (terms_append w (fill_terms {k = n} x (recount (zero-add n) t)))
 
 -- a filling of two rows in a row
 record Two (s r u : Row Blank) : Type 0 where

@@ -1,5 +1,5 @@
 -- Reading a term from cells: Reference 3.
-use Rattle.std.specs.Prelude.{List, [], ◌∷◌, Bool, true, false, ℕ, zero, suc, ◌+◌, ◌-◌, ◌/◌, ltb, leb}
+use Rattle.std.specs.Prelude.{List, [], ◌∷◌, ℕ, zero, suc, ◌+◌, ◌-◌, ◌/◌, ltb, leb}
 use Rattle.deciding.specs.Deciding.{pick}
 pub use Rattle.term.specs.declared.reading.Fault.{Fault}
 pub use Rattle.term.specs.declared.reading.Fault.TheVariants.{TooLong, CutShort, FieldSet, AboveFifteen, AboveCount}

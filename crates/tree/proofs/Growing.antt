@@ -15,7 +15,7 @@ use Rattle.layout.specs.Layout.{node_map_words, nodes_limit, node_map_last, map_
 use Rattle.bits.specs.Packed.{bits, sum, Skipped, First}
 use Rattle.bits.specs.Laws.{length_bits, get_bit, bit_low}
 use Rattle.shape.specs.Basics.{up_live}
-use Rattle.shape.specs.Shape.{Hook, Used, owner, Up, Tree}
+use Rattle.shape.specs.Shape.{Hook, Used, Up, Tree}
 use Rattle.shape.specs.Order.{childless}
 use Rattle.shape.specs.Change.{Links, Sorted, Lowest, Grown, none, more}
 use Rattle.shape.specs.Link.{link_tree}

@@ -9,14 +9,14 @@ use lib.ListN.{length, get_or, take}
 use lib.Seq.{take-suc}
 use Rattle.layout.specs.Layout.{last_link, tree_words}
 use Rattle.shape.specs.Basics.{up_live}
-use Rattle.shape.specs.Shape.{Shape, Hook, child, after, Used, Valid, to, owner, floor, Fits, Up, top, down, Tree}
+use Rattle.shape.specs.Shape.{Shape, after, Used, Valid, to, owner, floor, Up, top, down, Tree}
 use Rattle.shape.specs.Order.{ahead}
 use Rattle.shape.specs.Change.{Sorted}
-use Rattle.links.specs.Words.{cell_of, parent_of, first_of, next_of, word, shape, hook}
+use Rattle.links.specs.Words.{cell_of, next_of, word, shape, hook}
 use Rattle.tree.specs.Promises.{Sound, Found, Absent, Descended}
 use Rattle.tree.specs.Needs.{ChildWith, Next}
-use Rattle.links.specs.Limits.{used_low, live_low, hook_low}
-use Rattle.links.specs.Siblings.{Before, Further, Ready, link_low}
+use Rattle.links.specs.Limits.{live_low, hook_low}
+use Rattle.links.specs.Siblings.{Before, Ready, link_low}
 
 -- ---- along the children of p: behind b, and x comes next
 

@@ -1,10 +1,10 @@
 -- What the functions promise
-use Rattle.std.specs.Prelude.{◌≡◌, ◌⊎◌, List, reverse, true, false, ℕ, suc, ◌+◌, ◌-◌, ◌≤◌, ◌<◌, length, get_or, take, drop}
+use Rattle.std.specs.Prelude.{◌≡◌, List, reverse, true, false, ℕ, suc, ◌+◌, ◌-◌, ◌≤◌, ◌<◌, length, get_or, take, drop}
 use Rattle.layout.specs.Layout.{rule_numbers, nodes_limit, rules_limit, tree_words}
 use Rattle.shape.specs.Shape.{Shape, Hook, Used, Live, Valid, to, owner, floor, Up, Tree}
 use Rattle.shape.specs.Change.{Grown, Links, Sorted}
 use Rattle.shape.specs.Tally.{tally, marked}
-use Rattle.links.specs.Words.{cell_of, parent_of, next_of, shape, hook}
+use Rattle.links.specs.Words.{shape, hook}
 
 -- the length of the memory, and a tree in it
 pub record Sound (ws : List ℕ) : Type 0 where
