@@ -1,7 +1,7 @@
 -- Each turn of the loop is one command of the definition.
 use Rattle.std.proofs.Common.{sym, ◌∙◌, subst, ◌+◌, ◌≤◌, length, drop, rules}
 use Rattle.commands.specs.Commands.{Read}
-use Rattle.commands.specs.Laws.{read_at}
+use Rattle.commands.proofs.Laws.{read_at}
 use Rattle.batch.proofs.Looping.{Turn, finished, ends_10, ends_with, fits_in, used_up, again}
 use Rattle.batch.proofs.run_commands.Goals as goal
 
