@@ -1,18 +1,15 @@
--- The answer of `enter` case by case, as far as it rests on how `entry_in` computes it: an edit of that definition is refused here.
+-- The answer of `enter` case by case, as far as it rests on which slot `entry_in` looks up: an edit of that is refused here.
 use Rattle.std.specs.Prelude.{◌≡◌, refl, Bool, true, false, List, [], ℕ, ◌<◌, ltb, length, get_or}
 use Rattle.std.proofs.Common.{sym, ap, subst, ◌∙◌, arith, lt-ltb, le-ltb, ltb-true, ltb-false}
 use Rattle.deciding.specs.Deciding.{pick}
 use Rattle.names.specs.Name.{IsName, passes_as_name}
 use Rattle.names.specs.Table.{Missing, slot_in, Holds}
 use Rattle.names.specs.Calls.{Entry, Held, New, NoName, NoSlot, entry_in, table_after, Enters, entered, no_table}
-use Rattle.names.specs.Cases.{Given, failing, no_name, held, new, no_slot, is_name_decides, is_name, not_name, slot_of_it, slot_missing, slot_has, slot_none}
+use Rattle.names.specs.Cases.{Given, failing, no_name, held, new, no_slot, is_name_decides, is_name, slot_of_it, slot_missing, slot_has, slot_none, entry_no_name}
 
 -- ---- the answer
 
 module _ {t : List ℕ} {names : List (List ℕ)} {free : ℕ} (h : Holds t names free) (name : List ℕ) where
-  pub entry_no_name : (IsName name → ⊥) → entry_in names free name ≡ NoName
-  entry_no_name f = ap (λ (b : Bool). pick b (pick (ltb (slot_in names name) (length names)) (Held (slot_in names name)) (pick (ltb 0 free) (New (length names)) NoSlot)) NoName) (not_name name f)
-
   past : IsName name → entry_in names free name ≡ pick (ltb (slot_in names name) (length names)) (Held (slot_in names name)) (pick (ltb 0 free) (New (length names)) NoSlot)
   past i = ap (λ (b : Bool). pick b (pick (ltb (slot_in names name) (length names)) (Held (slot_in names name)) (pick (ltb 0 free) (New (length names)) NoSlot)) NoName) (is_name name i)
 

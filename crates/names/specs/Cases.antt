@@ -5,7 +5,7 @@ use Rattle.std.proofs.lemmas.Bool.{eqb-false}
 use Rattle.deciding.specs.Deciding.{Decides, pick}
 use Rattle.names.specs.Name.{IsName, printed, passes_as_name}
 use Rattle.names.specs.Table.{Apart, Missing, same, slot_in, Holds, Passes}
-use Rattle.names.specs.Calls.{Entry, Held, New, NoTable, NoName, NoSlot, table_after, Enters, entered, no_table}
+use Rattle.names.specs.Calls.{Entry, Held, New, NoTable, NoName, NoSlot, entry_in, table_after, Enters, entered, no_table}
 
 -- Exactly when `enter` gives each answer, in the order 1, 11, held, 12.
 pub data Given (table name : List ℕ) : Entry → Type 0 where
@@ -162,6 +162,12 @@ slot_right (x ∷ names) others name l = go (same x name) refl l (slot_right nam
         → pick b 0 (suc (slot_in (names ++ others) name)) ≡ suc (length names) + slot_in others name
     go true q l ih = absurd (omega arith)
     go false q l ih = let e = ih (omega arith) in omega arith
+
+-- ---- the answer
+
+module _ {t : List ℕ} {names : List (List ℕ)} {free : ℕ} (h : Holds t names free) (name : List ℕ) where
+  pub entry_no_name : (IsName name → ⊥) → entry_in names free name ≡ NoName
+  entry_no_name f = rw (not_name name f) refl
 
 -- ---- the promise and its cases
 
