@@ -1,4 +1,5 @@
-// What C and Rust link. Each function wraps one call of the crates below it, and promises what that call promises, in numbers.
+// The seven calls that C and Rust link. Each function wraps one call of the crates below it, and promises what that call promises,
+// in numbers. A library exports nothing: `claggyfoot_c` exports them, each under its own name and with its own promise.
 #![tactic(auto)]
 
 ghost use Rattle.std.specs.Prelude.{◌≡◌};

@@ -1,12 +1,14 @@
 // Reads commands as cells from standard input, runs one batch on an empty book, and writes a listing of its records.
 #![tactic(auto)]
 
-ghost use Rattle.std.specs.Prelude.{◌≤◌, length};
+ghost use Rattle.std.specs.Prelude.{◌≤◌, length, take};
+ghost use Rattle.std.specs.Io.KnownBytes.{Consumes};
 ghost use Rattle.writing.specs.Writing.{Front};
 ghost use Rattle.session.specs.Session.{answer as answerTo, session};
 
 use book::Book;
-use libc::{STDIN_FILENO, STDOUT_FILENO};
+use std::io;
+use std::io::{Read, Write};
 
 // The listing of a batch on an empty book.
 fn answer(cells: &[u16], text: &mut [u8]) -> usize
@@ -38,11 +40,26 @@ fn respond(input: &[u8], text: &mut [u8]) -> usize
     answer(&cells[..size], text)
 }
 
+// Fills the front of `input`, until it is full, the input ends or a read fails, and answers how many bytes stand there.
+fn read_full<R: Read>(reader: &mut R, input: &mut [u8]) -> usize
+    ensures within { result ≤ length input.new }
+    ensures bytes { Consumes (R.remaining reader.old) (R.remaining reader.new) (take result input.new) }
+{
+    let mut done: usize = 0;
+    while done < input.len() {
+        match reader.read(&mut input[done..]) {
+            Ok(0) | Err(_) => return done,
+            Ok(n) => done += n,
+        }
+    }
+    done
+}
+
 // One byte more than is allowed shows that there are too many.
-fn main() {
+fn main(rt: HostRuntime) -> io::Result<()> {
     let mut input = [0u8; 8193];
-    let size = io::read_full(STDIN_FILENO, &mut input);
-    let mut text = io::large_buffer();
+    let size = read_full(&mut rt.stdin(), &mut input);
+    let mut text = [0u8; 65536];
     let end = respond(&input[..size], &mut text);
-    io::write_all(STDOUT_FILENO, &text[..end]);
+    rt.stdout().write_all(&text[..end])
 }
