@@ -3,13 +3,15 @@ use Rattle.std.specs.Prelude.{◌≡◌, refl, List, [], ℕ, ◌*◌, ◌+◌, 
 use Rattle.std.proofs.Common.{sym, ap, ◌∙◌, arith}
 use Rattle.names.specs.Name.{IsName}
 use Rattle.names.specs.Table.{Holds, Passes, Missing, put}
-use Rattle.names.specs.Cases.{Given, failing, no_name, held, new, no_slot, given, leaves}
+use Rattle.names.specs.Cases.{Given, failing, no_name, held, new, no_slot, leaves}
 use Rattle.names.specs.Calls.{refusal_of_entry, number_of_entry, table_after, PartOf, bad_table, no_number, at, refusal_of_part, start_of_part, size_of_part}
 use Rattle.names.specs.declared.Entry.{Entry}
 use Rattle.names.specs.declared.Entry.TheVariants.{Held, New, NoTable, NoName, NoSlot}
 use Rattle.names.specs.declared.Part.{Part}
 use Rattle.names.specs.declared.Part.TheVariants.{At, BadTable, NoNumber}
-use Rattle.names.specs.Once.{given_once, part_once}
+use Rattle.names.specs.Once.{part_once}
+use Rattle.names.proofs.Cases.{given}
+use Rattle.names.proofs.Once.{given_once}
 use Rattle.claggyfoot.specs.Calls.{Exactly}
 use Rattle.claggyfoot.specs.Numbers.{EntersNumbers, PartNumbers}
 

@@ -1,6 +1,6 @@
--- The answer of `enter` case by case: exactly when each is given, read off the function.
+-- The answer of `enter` case by case: exactly when each is given. That `entry_in` computes it so is read off in proofs/Cases.
 use Rattle.std.specs.Prelude.{◌≡◌, refl, Bool, true, false, List, [], ◌∷◌, ◌++◌, ℕ, zero, suc, ◌+◌, ◌-◌, ◌≤◌, ◌<◌, eqb, leb, ltb, length, get_or}
-use Rattle.std.proofs.Common.{sym, ap, ap₂, subst, ◌∙◌, arith, lt-ltb, le-ltb, ltb-true, ltb-false, leb-true, leb-false, eq-eqb, eqb-true}
+use Rattle.std.proofs.Common.{sym, ap, ap₂, ◌∙◌, arith, ltb-true, ltb-false, leb-true, leb-false, eq-eqb, eqb-true}
 use Rattle.std.proofs.lemmas.Bool.{eqb-false}
 use Rattle.deciding.specs.Deciding.{Decides, pick}
 use Rattle.names.specs.Name.{IsName, printed, passes_as_name}
@@ -167,57 +167,10 @@ slot_right (x ∷ names) others name l = go (same x name) refl l (slot_right nam
 
 module _ {t : List ℕ} {names : List (List ℕ)} {free : ℕ} (h : Holds t names free) (name : List ℕ) where
   pub entry_no_name : (IsName name → ⊥) → entry_in names free name ≡ NoName
-  entry_no_name f = ap (λ (b : Bool). pick b (pick (ltb (slot_in names name) (length names)) (Held (slot_in names name)) (pick (ltb 0 free) (New (length names)) NoSlot)) NoName) (not_name name f)
-
-  past : IsName name → entry_in names free name ≡ pick (ltb (slot_in names name) (length names)) (Held (slot_in names name)) (pick (ltb 0 free) (New (length names)) NoSlot)
-  past i = ap (λ (b : Bool). pick b (pick (ltb (slot_in names name) (length names)) (Held (slot_in names name)) (pick (ltb 0 free) (New (length names)) NoSlot)) NoName) (is_name name i)
-
-  pub entry_held : (k : ℕ) → k < length names → get_or names k [] ≡ name → entry_in names free name ≡ Held k
-  entry_held k l e =
-      let s = slot_of_it names k name h.apart l e in
-      past (subst IsName e (h.named k l))
-      ∙ ap (λ (b : Bool). pick b (Held (slot_in names name)) (pick (ltb 0 free) (New (length names)) NoSlot)) (lt-ltb (slot_in names name) (length names) (subst (λ (z : ℕ). z < length names) (sym s) l))
-      ∙ ap Held s
-
-  missed : IsName name → Missing names name → entry_in names free name ≡ pick (ltb 0 free) (New (length names)) NoSlot
-  missed i m =
-      past i
-      ∙ ap (λ (b : Bool). pick b (Held (slot_in names name)) (pick (ltb 0 free) (New (length names)) NoSlot))
-      (le-ltb (slot_in names name) (length names) (let e = slot_missing names name m in omega arith))
-
-  pub entry_new : IsName name → Missing names name → 0 < free → entry_in names free name ≡ New (length names)
-  entry_new i m z = missed i m ∙ ap (λ (b : Bool). pick b (New (length names)) NoSlot) (lt-ltb 0 free z)
-
-  pub entry_no_slot : IsName name → Missing names name → free ≡ 0 → entry_in names free name ≡ NoSlot
-  entry_no_slot i m z = missed i m ∙ ap (λ (b : Bool). pick b (New (length names)) NoSlot) (le-ltb 0 free (omega arith))
-
-  -- each case of the function
-  pub entry_given : Given t name (entry_in names free name)
-  entry_given = go (passes_as_name name) (ltb (slot_in names name) (length names)) (ltb 0 free) refl refl refl
-    where
-      missing : ltb (slot_in names name) (length names) ≡ false → Missing names name
-      missing e = slot_none names name h.apart (ltb-false (slot_in names name) (length names) e)
-
-      go : (a b c : Bool) → passes_as_name name ≡ a → ltb (slot_in names name) (length names) ≡ b → ltb 0 free ≡ c
-          → Given t name (pick a (pick b (Held (slot_in names name)) (pick c (New (length names)) NoSlot)) NoName)
-      go false b c e f g = no_name (record { names = names; free = free; holds = h }) ((is_name_decides name).no e)
-      go true true c e f g = let l = ltb-true (slot_in names name) (length names) f in held h l (slot_has names name l)
-      go true false true e f g = new h ((is_name_decides name).yes e) (missing f) (ltb-true 0 free g) refl
-      go true false false e f g = no_slot (subst (Holds t names) (let z = ltb-false 0 free g in let q : free ≡ 0 = omega arith in q) h) ((is_name_decides name).yes e) (missing f)
+  entry_no_name f = rw (not_name name f) refl
 
 -- ---- the promise and its cases
-
-pub given : {t name s : List ℕ} {a : Entry} → Enters t name a s → Given t name a
-given {t} {name} (entered h e l) = subst (Given t name) (sym e) (entry_given h name)
-given {t} {name} (no_table f e l) = subst (Given t name) (sym e) (failing f)
 
 pub leaves : {t name s : List ℕ} {a : Entry} → Enters t name a s → s ≡ table_after t name a
 leaves (entered h e l) = l
 leaves {t} {name} (no_table f e l) = l ∙ sym (ap (table_after t name) e)
-
-pub enters_so : {t name s : List ℕ} (a : Entry) → Given t name a → s ≡ table_after t name a → Enters t name a s
-enters_so {t} {name} {s} a (failing f) l = no_table f refl l
-enters_so {t} {name} {s} a (no_name p n) l = entered p.holds (sym (entry_no_name p.holds name n)) l
-enters_so {t} {name} {s} a (held {k = k} h b e) l = entered h (sym (entry_held h name k b e)) l
-enters_so {t} {name} {s} a (new h n m z e) l = entered h (ap New e ∙ sym (entry_new h name n m z)) l
-enters_so {t} {name} {s} a (no_slot h n m) l = entered h (sym (entry_no_slot h name n m refl)) l

@@ -1,4 +1,5 @@
--- What entering a name leads to: the table still passes, entering again changes nothing, and the number gives the name back.
+-- What entering a name leads to: the table still passes, entering again changes nothing, and the number gives the name back. Those
+-- three themselves rest on how `entry_in` computes its answer, and stand in proofs/Entering.
 use Rattle.std.specs.Prelude.{◌≡◌, refl, get_or}
 use Rattle.std.proofs.Common.{sym, subst, ◌∙◌, length-append}
 use Rattle.std.proofs.Math.Path.{ap}
@@ -9,11 +10,11 @@ use Rattle.std.proofs.Math.Decide.{dec_lt}
 use Rattle.std.proofs.Math.ListN.{length, take, drop, replicate, get_or-append}
 use Rattle.std.proofs.Math.Seq.{take_at, drop-append-add, get_or-append_seam}
 use Rattle.names.specs.Name.{IsName}
-use Rattle.names.specs.Table.{Named, Apart, Missing, slot_of, slots_of, put, Holds, Passes}
-use Rattle.names.specs.Cases.{Given, failing, no_name, held, new, no_slot, given, leaves, enters_so}
-use Rattle.names.specs.Calls.{Enters, table_after, Entry, Held, New, NoTable, NoName, NoSlot, refusal_of_entry, number_of_entry, PartOf, at, Part, At, NameIs, start_of_part, size_of_part}
+use Rattle.names.specs.Table.{Named, Apart, Missing, slot_of, slots_of, put, Holds}
+use Rattle.names.specs.Cases.{Given, failing, no_name, held, new, no_slot}
+use Rattle.names.specs.Calls.{table_after, Entry, Held, New, NoTable, NoName, NoSlot, refusal_of_entry, number_of_entry, PartOf, at, Part, At, NameIs, start_of_part, size_of_part}
 use Rattle.names.specs.Slots.{slots_append, slots_length, slot_used, slot_name}
-use Rattle.names.specs.Once.{passes, enters_once, part_once}
+use Rattle.names.specs.Once.{part_once}
 
 -- One name more at the end.
 module _ (names : List (List ℕ)) (name : List ℕ) where
@@ -76,14 +77,14 @@ module _ {t : List ℕ} {names : List (List ℕ)} {free : ℕ} (h : Holds t name
   }
 
 -- The answer to the same name again: a name that was made is held now.
-abbrev again : Entry → Entry
+abbrev pub again : Entry → Entry
 again (Held k) = Held k
 again (New k) = Held k
 again NoTable = NoTable
 again NoName = NoName
 again NoSlot = NoSlot
 
-given_again : {t name : List ℕ} (a : Entry) → Given t name a → Given (table_after t name a) name (again a)
+pub given_again : {t name : List ℕ} (a : Entry) → Given t name a → Given (table_after t name a) name (again a)
 given_again a (failing f) = failing f
 given_again a (no_name p n) = no_name p n
 given_again a (held h l e) = held h l e
@@ -92,44 +93,25 @@ given_again {t} {name} a (new {names = names} {free = free} {k = k} h n m z e) =
     held (subst (λ (j : ℕ). Holds (put t j name) (names ++ (name ∷ [])) (free - 1)) (sym e) (put_holds h name z n m)) there (more_last names name k e)
 given_again a (no_slot h n m) = no_slot h n m
 
-again_stays : (t name : List ℕ) (a : Entry) → table_after t name (again a) ≡ t
+pub again_stays : (t name : List ℕ) (a : Entry) → table_after t name (again a) ≡ t
 again_stays t name (Held k) = refl
 again_stays t name (New k) = refl
 again_stays t name NoTable = refl
 again_stays t name NoName = refl
 again_stays t name NoSlot = refl
 
-again_says : (a : Entry) → (refusal_of_entry (again a) ≡ refusal_of_entry a) × (number_of_entry (again a) ≡ number_of_entry a)
+pub again_says : (a : Entry) → (refusal_of_entry (again a) ≡ refusal_of_entry a) × (number_of_entry (again a) ≡ number_of_entry a)
 again_says (Held k) = (refl, refl)
 again_says (New k) = (refl, refl)
 again_says NoTable = (refl, refl)
 again_says NoName = (refl, refl)
 again_says NoSlot = (refl, refl)
 
-enters_again : {t name : List ℕ} (a : Entry) (s : List ℕ) → Enters t name a s → Enters s name (again a) s
-enters_again {t} {name} a s p = enters_so (again a) (subst (λ (x : List ℕ). Given x name (again a)) (sym (leaves p)) (given_again a (given p))) (sym (again_stays s name a))
-
 -- Entering a name twice gives the same refusal, the same number and the same table.
 pub record Same (a b : Entry) (s u : List ℕ) : Type 0 where
   pub refusal : refusal_of_entry b ≡ refusal_of_entry a
   pub number : number_of_entry b ≡ number_of_entry a
   pub table : u ≡ s
-
-pub entered_twice : {t name : List ℕ} (a b : Entry) (s u : List ℕ) → Enters t name a s → Enters s name b u → Same a b s u
-entered_twice a b s u p q =
-    let e = enters_once b (again a) u s q (enters_again a s p) in
-    record { refusal = ap refusal_of_entry e.0 ∙ (again_says a).0; number = ap number_of_entry e.0 ∙ (again_says a).1; table = e.1 }
-
--- A table that passes still passes after any answer.
-pub stays_passing : {t name : List ℕ} (a : Entry) (s : List ℕ) → Enters t name a s → Passes t → Passes s
-stays_passing {t} {name} a s p q = subst Passes (sym (leaves p)) (go a (given p))
-  where
-    go : (x : Entry) → Given t name x → Passes (table_after t name x)
-    go x (failing f) = q
-    go x (no_name r n) = q
-    go x (held h l e) = q
-    go x (new h n m z e) = subst (λ (j : ℕ). Passes (put t j name)) (sym e) (passes (put_holds h name z n m))
-    go x (no_slot h n m) = q
 
 -- The name with the number k is the part of the table after the first byte of slot k.
 module _ {t : List ℕ} {names : List (List ℕ)} {free : ℕ} (h : Holds t names free) (k : ℕ) (l : k < length names) where
@@ -145,16 +127,3 @@ module _ {t : List ℕ} {names : List (List ℕ)} {free : ℕ} (h : Holds t name
   pub name_held : (part : List ℕ) → NameIs t k part → part ≡ get_or names k []
   name_held part p =
       p.name_is ∙ ap (λ (x : Part). take (size_of_part x) (drop (start_of_part x) t)) (part_once p.part (At (32 * k + 1) (length (get_or names k []))) p.stands stands_at) ∙ name_is
-
--- The name of the number that `enter` gave is the name.
-pub entered_name : {t name : List ℕ} (a : Entry) (s part : List ℕ) → Enters t name a s → refusal_of_entry a ≡ 0 → NameIs s (number_of_entry a) part → part ≡ name
-entered_name {t} {name} a s part p z q = go a (given p) z (subst (λ (x : List ℕ). NameIs x (number_of_entry a) part) (leaves p) q)
-  where
-    go : (x : Entry) → Given t name x → refusal_of_entry x ≡ 0 → NameIs (table_after t name x) (number_of_entry x) part → part ≡ name
-    go x (failing f) r i = absurd (omega arith)
-    go x (no_name f n) r i = absurd (omega arith)
-    go x (held {k = k} h l e) r i = name_held h k l part i ∙ e
-    go x (new {names = names} {free = free} {k = k} h n m y e) r i =
-        let after = subst (λ (j : ℕ). Holds (put t j name) (names ++ (name ∷ [])) (free - 1)) (sym e) (put_holds h name y n m) in
-        name_held after k (omega (arith, more_length names name)) part i ∙ more_last names name k e
-    go x (no_slot h n m) r i = absurd (omega arith)

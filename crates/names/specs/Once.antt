@@ -4,7 +4,7 @@ use Rattle.std.proofs.Common.{sym, ap, ap₂, ◌∙◌, append_assoc, arith, ta
 use Rattle.std.proofs.lemmas.List.{length-replicate}
 use Rattle.names.specs.Name.{IsName}
 use Rattle.names.specs.Table.{Named, slot_of, slots_of, Holds, Passes}
-use Rattle.names.specs.Cases.{Given, leaves, enters_so}
+use Rattle.names.specs.Cases.{leaves}
 use Rattle.names.specs.Calls.{entry_in, Enters, entered, no_table, table_after, Entry, PartOf, bad_table, no_number, at, Part, NameIs, NameRefused, refusal_of_part, start_of_part, size_of_part, Check, Fails, Good, Checks}
 use Rattle.names.specs.Slots.{named_rest, slot_length, slot_once, zero_at}
 
@@ -57,10 +57,6 @@ enters_once {t} {name} a b s u p q = let e = same_answer p q in (e, leaves p ∙
     same_answer (entered h e l) (no_table f g m) = absurd (f (passes h))
     same_answer (no_table f e l) (entered h g m) = absurd (f (passes h))
     same_answer (no_table f e l) (no_table g h m) = e ∙ sym h
-
--- So the condition of an answer holds of one answer only.
-pub given_once : {t name : List ℕ} (a b : Entry) → Given t name a → Given t name b → a ≡ b
-given_once {t} {name} a b p q = (enters_once a b (table_after t name a) (table_after t name b) (enters_so a p refl) (enters_so b q refl)).0
 
 pub part_once : {t : List ℕ} {number : ℕ} (p q : Part) → PartOf t number p → PartOf t number q → p ≡ q
 part_once p q (bad_table f) (bad_table g) = refl

@@ -1,8 +1,9 @@
 -- Each way out is one case of the answer.
 use Rattle.std.proofs.Common.{[], ℕ, ◌<◌, length, get_or, refl, sym, ap, subst, ◌∙◌, arith}
 use Rattle.names.specs.Table.{Holds, Missing, slot_in}
-use Rattle.names.specs.Cases.{no_name, held, new, no_slot, enters_so, slot_has, slot_none}
+use Rattle.names.specs.Cases.{no_name, held, new, no_slot, slot_has, slot_none}
 use Rattle.names.specs.Once.{passes}
+use Rattle.names.proofs.Cases.{enters_so}
 use Rattle.names.proofs.Running.{length_is}
 use Rattle.names.proofs.enter_passing.Goals as goal
 
