@@ -142,7 +142,7 @@ parted : {ws ws' : List ℕ} (cs ds : List Change) → Along (cs ++ ds) ws ws' �
 parted {ws} {ws'} [] ds a = (ws, none, a)
 parted {ws} {ws'} (c ∷ cs) ds a =
     let f = first_of c (cs ++ ds) a refl in
-    let g = parted cs ds f.2 in
+    let g = parted {ws = f.0} cs ds f.2 in
     (g.0, then f.1 g.1, g.2)
 
 -- The memory at a stage of a batch that makes ws' of ws: it passes, holds the rules of the stage, and lies on the way between the two.
