@@ -33,7 +33,7 @@ pub enum Check {
 }
 
 // What entering a name gives: the slot in which it is held already, the slot that was made for it, or why it is refused.
-#[derive(Drop)]
+#[derive(Clone, Copy)]
 pub enum Entry {
     Held(usize),
     New(usize),
@@ -43,7 +43,7 @@ pub enum Entry {
 }
 
 // Where the name with a number stands in the table, or why there is none.
-#[derive(Drop)]
+#[derive(Clone, Copy)]
 pub enum Part {
     At { start: usize, size: usize },
     BadTable,
