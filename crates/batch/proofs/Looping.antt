@@ -11,7 +11,7 @@ use Rattle.commands.specs.declared.reader.Command.{Command}
 use Rattle.commands.specs.Commands.{command_in, Read}
 use Rattle.batch.specs.Effects.{does}
 use Rattle.batch.specs.Promises.{Does, Ran}
-use Rattle.commands.specs.Laws.{read_at}
+use Rattle.commands.proofs.Laws.{read_at}
 use Rattle.batch.proofs.Turning.{all_used, no_room, fits, stops, goes_on}
 
 -- What holds before each command, u cells used and w written.

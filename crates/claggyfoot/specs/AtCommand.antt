@@ -21,7 +21,8 @@ use Rattle.commands.specs.declared.kinds.Act.{Act}
 use Rattle.commands.specs.declared.kinds.Act.TheVariants.{Unknown, Add, Remove, Ask, Show, Room}
 use Rattle.commands.specs.Kinds.{mode_of, kind_at}
 use Rattle.commands.specs.Commands.{command_in}
-use Rattle.commands.specs.Laws.{TakesTerm, FaultIs, term_fault, act_is, number_is, read_of}
+use Rattle.commands.specs.Laws.{TakesTerm, FaultIs}
+use Rattle.commands.proofs.Laws.{term_fault, act_is, number_is, read_of}
 use Rattle.batch.specs.Effects.{Change, more, change_of, Effect, shown, tells, acts, does}
 use Rattle.batch.specs.Run.{Outcome, ends_with, is_going_on, run}
 use Rattle.batch.specs.Promises.{Came, Changes, Along, none, then, ran, turned_away, passing}

@@ -30,7 +30,8 @@ use Rattle.commands.specs.declared.kinds.Kind.{Kind}
 use Rattle.commands.specs.Kinds.{ask, kind_at, about_term, mode_is}
 use Rattle.commands.specs.Words.{InWords, in_words}
 use Rattle.commands.specs.Commands.{command_in}
-use Rattle.commands.specs.Laws.{Wrong, TakesTerm, Faulty, fault_3, fault_4, fault_5, two, act_is, whole_behind, read_of}
+use Rattle.commands.specs.Laws.{Wrong, TakesTerm, Faulty, fault_3, fault_4, fault_5, whole_behind}
+use Rattle.commands.proofs.Laws.{two, act_is, read_of}
 use Rattle.batch.specs.Effects.{Effect, tells, acts}
 use Rattle.batch.specs.Run.{Outcome, run}
 use Rattle.batch.specs.Promises.{Came, Ran, TurnedAway, Runs, ran, turned_away, passing}

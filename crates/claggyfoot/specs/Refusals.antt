@@ -16,7 +16,8 @@ use Rattle.commands.specs.declared.kinds.Kind.{Kind}
 use Rattle.commands.specs.declared.reader.Command.{Command}
 use Rattle.commands.specs.Kinds.{kind_at, about_term, about_rule, changes_book, term_is, changes_below_2}
 use Rattle.commands.specs.Commands.{command_with, command_from, command_in}
-use Rattle.commands.specs.Laws.{right_number, whole_read, plain_read, act_is, number_is, stop_range, read_of}
+use Rattle.commands.specs.Laws.{right_number}
+use Rattle.commands.proofs.Laws.{whole_read, plain_read, act_is, number_is, stop_range, read_of}
 use Rattle.batch.specs.Effects.{Effect, change_of, change_at, shown, acts, does}
 use Rattle.batch.specs.Run.{Outcome, is_going_on, run}
 use Rattle.batch.specs.Laws.{does_stop, does_act, any_effect, run_none, run_10, run_stops, run_goes_on}

@@ -22,7 +22,6 @@ use Rattle.book.specs.Memory.{View, view}
 use Rattle.recorded.specs.WayCells.{kept_word, blanks_low}
 use Rattle.passing.specs.Wanted.{Told, Bare, whole_row}
 use Rattle.passing.specs.State.{none, more, Stacked, AtHook, AllFound, Sizes, AskedNode, Entered, Pushed, Downed}
-use Rattle.passing.specs.State as state
 use Rattle.book.specs.Looking.{nodes_low}
 use Rattle.recorded.specs.Way.{wants, blanks, counts, numbered, word_of, Kept, none, more, Low}
 

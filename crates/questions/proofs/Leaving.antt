@@ -19,7 +19,7 @@ use Rattle.book.specs.Memory.{view}
 use Rattle.questions.specs.declared.Point.{Point}
 use Rattle.questions.specs.declared.trying.Ways.{Ways}
 use Rattle.questions.specs.Walk.{Walk, reading, next, good, failed_none}
-use Rattle.questions.specs.Promises.{walk_before, walk_after, Skips, stay, skip_on, Threaded, size_at, height_at, hits_at, Ready, beside, siblings, Left, PassesNode}
+use Rattle.questions.specs.Promises.{walk_before, walk_after, Skips, stay, skip_on, Threaded, size_at, height_at, hits_at, Ready, Left, PassesNode}
 use Rattle.questions.proofs.Siblings.{any_met, met_step}
 use Rattle.questions.proofs.Threads.{tree, bound, word_of, beside_threaded}
 

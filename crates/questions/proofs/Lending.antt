@@ -7,7 +7,7 @@ use mathlib.Core.List.{[], List, ◌∷◌}
 use lib.Dec.{T as Holds}
 use lib.ListN.{length, get_or, set}
 use seplogic.Ra.Ura.{Ura}
-use seplogic.Ra.TreeShare.{full_share}
+use base.Fraction.{full_share}
 use mir.Syntax.{Lifetime, Ty, ty_array}
 use mir.Val.{Val, WT, has_ty, vbool}
 use base.Logic.{ent, sep, ex}
@@ -16,7 +16,7 @@ use types.Logic.{Logic, sem}
 use types.Kit.{Item, Goal, Seq, Step, step, ‵, ◌⊛◌, some, later, ◌$◌, ◌∵◌, !, qed, move, use1, use3, drop, split, pick, fsplit, fjoin, frame, await, updating}
 use types.Kit.{now as at_once, show, done, rewrite, fpick, fpack, feq_i}
 use types.SemTy.{cells, Arr}
-use denote.RattleType.{RattleType}
+use denote.RattleType.{RattleType, RowLaws}
 use denote.Shadow.{pure_l, pure_i}
 use denote.Memory.{mem, cell_at, part_at, part_of, shares}
 use denote.Ref.{Bor, MutBor}
@@ -127,9 +127,9 @@ module _ {M : Type 1} {𝓤 : Ura M} {𝓛 : Logic 𝓤} {K : Type 0} {Γ : List
   flag_owned t f = owned t bool (Is bool) (bool_Makes 𝓛) f _ refl
 
   -- a shared slice may be had twice
-  pub shared_twice : K → (n : Lifetime) (κ : Lft) (S : RattleType) (x : Bor (List S.Denot)) (vs : List Val)
+  pub shared_twice : K → (n : Lifetime) (κ : Lft) (S : RattleType) → RowLaws S → (x : Bor (List S.Denot)) (vs : List Val)
       → Step K 𝓛 (‵ ((ShrSlice n κ S).own_val x vs) ∷ ‵ ((ShrSlice n κ S).own_val x vs) ∷ Γ) G (‵ ((ShrSlice n κ S).own_val x vs) ∷ Γ) G
-  shared_twice t n κ S x vs = step (λ s. use1 𝓛 (‵ ((ShrSlice n κ S).own_val x vs) ⊛ ‵ ((ShrSlice n κ S).own_val x vs)) ((shr_slice_copy 𝓛 n κ S).twice x vs) $ split t $ s)
+  shared_twice t n κ S laws x vs = step (λ s. use1 𝓛 (‵ ((ShrSlice n κ S).own_val x vs) ⊛ ‵ ((ShrSlice n κ S).own_val x vs)) ((shr_slice_copy 𝓛 n κ S laws).twice x vs) $ split t $ s)
 
 -- the point lies in place i of the list from (b, o)
 abbrev Lies : R.Denot → ℕ → ℕ → ℕ → Fml

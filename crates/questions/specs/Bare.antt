@@ -44,10 +44,12 @@ unifies_with r w = (only r w, itself, append-nil r ∙ sym (itself_same r 0))
 
 generalises : (r : Row Blank) → Terms 1 r → Answers generalisations (blank_form bare) r → r ≡ star ∷ []
 unfolding Answers fill
+generalises [] w a = elim w [ ]
 generalises (vari blank ∷ r) (more p w) a = ap (λ (z : Row Blank). star ∷ z) (empty r w)
   where
     empty : (s : Row Blank) → Terms 0 s → s ≡ []
     empty [] none = refl
+    empty (_ ∷ _) x = elim x [ ]
 generalises (symb c ∷ r) w a = absurd (differ a.1)
   where
     differ : {s : Row Blank} → ¬ (symb c ∷ s ≡ star ∷ [])

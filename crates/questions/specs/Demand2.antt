@@ -9,7 +9,8 @@ use Rattle.layout.specs.Layout.{rule_numbers}
 use Rattle.term.specs.Cells.{Terms, blank_form}
 use Rattle.term.specs.Questions.{Mode, Answers, instances, generalisations}
 use Rattle.term.specs.Machine.{accepts}
-use Rattle.term.specs.Meaning.{decides, other_way}
+use Rattle.term.specs.Meaning.{other_way}
+use Rattle.term.proofs.Meaning.{decides}
 use Rattle.term.specs.Whole.{whole_term}
 use Rattle.book.specs.Rules.{Rule, Held, nothing, rule, Rules, each, terms_of, rule_count}
 use Rattle.book.specs.Gathered.{rule_inj}

@@ -5,7 +5,7 @@ use Rattle.std.proofs.Common.{sym, ap, arith}
 use mathlib.Core.List.Memᴰ
 use mathlib.Core.List.{List, ◌++◌, Memᴰ}
 use Rattle.std.proofs.Math.Bool.{true, false}
-use Prim.Native.Nat.{ℕ, zero, suc, ◌+◌, ◌<◌}
+use Prim.Native.Nat.{ℕ, zero, suc, ◌<◌}
 use Rattle.std.proofs.Math.Dec.{T}
 use Rattle.layout.specs.Layout.{rule_numbers}
 use Rattle.book.specs.Rules.{Rules, each}

@@ -21,7 +21,7 @@ use turning::turn;
 
 // A point still to be tried: a link, the subterms of a rule still to skip there, and the place in the question. It is small, since
 // each question makes a list of them.
-#[derive(Drop)]
+#[derive(Clone, Copy)]
 pub struct Point {
     pub link: u16,
     pub skip: u16,

@@ -12,7 +12,7 @@ use Rattle.bits.specs.Packed.{fields}
 use Rattle.term.specs.Reading.{read_term}
 use Rattle.term.specs.declared.reading.Reading.TheVariants.{Whole}
 use Rattle.book.specs.Filling.{Zeros}
-use Rattle.book.specs.Memory.{view, number, term, blank_number}
+use Rattle.book.specs.Memory.{view, number, blank_number}
 use Rattle.links.specs.Words.{cell_of}
 use Rattle.book.specs.Looking.{rule_number}
 use Rattle.recorded.specs.Promises.{TermOf, TermDecided, RuleAt, RuleDecided}

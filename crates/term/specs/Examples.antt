@@ -1,14 +1,13 @@
--- The eleven proved cases of Reference 13, as rows of one table that one statement covers.
+-- The eleven proved cases of Reference 13, as rows of one table that one statement covers: `eleven` of proofs/Examples.
 use Rattle.std.specs.Prelude.{◌≡◌, List, [], ◌∷◌, Bool, true, false, not, ℕ, T, eqb, length}
-use Rattle.std.proofs.Common.{ap, subst, arith, T_not, eqb→eq}
+use Rattle.std.proofs.Common.{ap, subst, arith, eqb→eq}
 use Rattle.std.proofs.Math.Seq.{take-length}
 use Rattle.deciding.specs.Deciding.{both}
 use Rattle.term.specs.Cells.{Terms, blank_form}
-use Rattle.term.specs.Reading.{Reading, Whole, Refused, Fault, TooLong, CutShort, FieldSet, AboveFifteen, AboveCount, refusal_of, takes, read_from, read_term, reading_refusal, reading_cells}
+use Rattle.term.specs.Reading.{Reading, Whole, Refused, Fault, TooLong, CutShort, FieldSet, AboveFifteen, AboveCount, refusal_of, read_term, reading_refusal, reading_cells}
 use Rattle.term.specs.Questions.{Mode, variants, instances, generalisations, unifiables, Answers}
-use Rattle.term.specs.Beginnings.{nodes, node_count}
+use Rattle.term.specs.Beginnings.{node_count}
 use Rattle.term.specs.Machine.{accepts}
-use Rattle.term.specs.Meaning.{decides}
 use Rattle.term.specs.Whole.{whole_term}
 
 -- f/2 and f/1, g/1, a, b, and the first two variables
@@ -35,14 +34,14 @@ y = 0x8001
 
 -- A row: a rule and a question with the answer; two patterns of which neither answers for the other; rules with their
 -- node count; cells with how they are read, as the refusal, or 0, and the place or the length.
-data Case : Type 0 where
+pub data Case : Type 0 where
   asks : (rule : List ℕ) → Mode → (question : List ℕ) → Bool → Case
   neither : List ℕ → Mode → List ℕ → Case
   counts : List (List ℕ) → ℕ → Case
   reads : List ℕ → (refusal cells : ℕ) → Case
 
 -- What a row says ..
-Says : Case → Type 0
+unfoldable pub Says : Case → Type 0
 Says (asks rule mode question true) = Answers mode (blank_form question) (blank_form rule)
 Says (asks rule mode question false) = ¬ (Answers mode (blank_form question) (blank_form rule))
 Says (neither one mode other) = (¬ (Answers mode (blank_form one) (blank_form other))) × (¬ (Answers mode (blank_form other) (blank_form one)))
@@ -50,23 +49,23 @@ Says (counts terms n) = node_count terms ≡ n
 Says (reads cells refusal n) = (reading_refusal (read_term cells) ≡ refusal) × (reading_cells (read_term cells) ≡ n)
 
 -- .. and a test that the checker computes.
-is_term_row : List ℕ → Bool
+unfoldable pub is_term_row : List ℕ → Bool
 is_term_row cells = both (eqb (reading_refusal (read_term cells)) 0) (eqb (reading_cells (read_term cells)) (length cells))
 
-answers : Mode → (question rule : List ℕ) → Bool
+unfoldable pub answers : Mode → (question rule : List ℕ) → Bool
 answers mode question rule = accepts mode (blank_form question) (blank_form rule)
 
-agree : Bool → Bool → Bool
+unfoldable pub agree : Bool → Bool → Bool
 agree true c = c
 agree false c = not c
 
-test : Case → Bool
+unfoldable pub test : Case → Bool
 test (asks rule mode question answer) = both (is_term_row question) (both (is_term_row rule) (agree answer (answers mode question rule)))
 test (neither one mode other) = both (is_term_row one) (both (is_term_row other) (both (not (answers mode one other)) (not (answers mode other one))))
 test (counts terms n) = eqb (node_count terms) n
 test (reads cells refusal n) = both (eqb (reading_refusal (read_term cells)) refusal) (eqb (reading_cells (read_term cells)) n)
 
-table : List Case
+unfoldable pub table : List Case
 table =
     asks (f ∷ x ∷ y ∷ []) generalisations (f ∷ a ∷ b ∷ []) true
     ∷ asks (f ∷ x ∷ b ∷ []) generalisations (f ∷ g ∷ b ∷ b ∷ []) true
@@ -81,8 +80,8 @@ table =
     ∷ reads (f ∷ x ∷ x ∷ []) 0 3
     ∷ []
 
--- A test that passes says what its row says.
-halves : (p q : Bool) → T (both p q) → T p × T q
+-- What a test finds.
+pub halves : (p q : Bool) → T (both p q) → T p × T q
 halves true q h = (tt, h)
 halves false q h = absurd h
 
@@ -97,7 +96,7 @@ no_refusal (Refused fault place) n e f = absurd (some fault e)
     some AboveFifteen e = omega arith
     some AboveCount e = omega arith
 
-is_a_term : (cells : List ℕ) → T (is_term_row cells) → Terms 1 (blank_form cells)
+pub is_a_term : (cells : List ℕ) → T (is_term_row cells) → Terms 1 (blank_form cells)
 unfolding is_term_row
 is_a_term cells h =
     let r = read_term cells in
@@ -105,48 +104,11 @@ is_a_term cells h =
     let e = no_refusal r (length cells) (eqb→eq (reading_refusal r) 0 k.0) (eqb→eq (reading_cells r) (length cells) k.1) in
     subst (λ s. Terms 1 (blank_form s)) (take-length cells) (whole_term cells (length cells) e).form
 
-passes_says : (c : Case) → T (test c) → Says c
-unfolding test Says agree answers
-passes_says (asks rule mode question true) h =
-    let k = halves (is_term_row question) (both (is_term_row rule) (answers mode question rule)) h in
-    let l = halves (is_term_row rule) (answers mode question rule) k.1 in
-    (decides mode (blank_form question) (blank_form rule) (is_a_term question k.0) (is_a_term rule l.0)).0 l.1
-passes_says (asks rule mode question false) h =
-    let k = halves (is_term_row question) (both (is_term_row rule) (not (answers mode question rule))) h in
-    let l = halves (is_term_row rule) (not (answers mode question rule)) k.1 in
-    λ n. T_not (answers mode question rule) l.1 ((decides mode (blank_form question) (blank_form rule) (is_a_term question k.0) (is_a_term rule l.0)).1 n)
-passes_says (neither one mode other) h =
-    let no = both (not (answers mode one other)) (not (answers mode other one)) in
-    let k = halves (is_term_row one) (both (is_term_row other) no) h in
-    let l = halves (is_term_row other) no k.1 in
-    let m = halves (not (answers mode one other)) (not (answers mode other one)) l.1 in
-    let p = is_a_term one k.0 in
-    let q = is_a_term other l.0 in (
-      (λ n. T_not (answers mode one other) m.0 ((decides mode (blank_form one) (blank_form other) p q).1 n)),
-      (λ n. T_not (answers mode other one)
-          m.1 ((decides mode (blank_form other) (blank_form one) q p).1 n)),
-    )
-passes_says (counts terms n) h = eqb→eq (node_count terms) n h
-passes_says (reads cells refusal n) h =
-    let r = read_term cells in
-    let k = halves (eqb (reading_refusal r) refusal) (eqb (reading_cells r) n) h in
-    (eqb→eq (reading_refusal r) refusal k.0, eqb→eq (reading_cells r) n k.1)
-
 -- Every row of a table.
-All : (Case → Type 0) → List Case → Type 0
+unfoldable pub All : (Case → Type 0) → List Case → Type 0
 All P [] = Unit {0}
 All P (c ∷ cs) = P c × All P cs
 
-every : List Case → Bool
+unfoldable pub every : List Case → Bool
 every [] = true
 every (c ∷ cs) = both (test c) (every cs)
-
-passes_all : (cs : List Case) → T (every cs) → All Says cs
-unfolding All every
-passes_all [] h = tt
-passes_all (c ∷ cs) h = let k = halves (test c) (every cs) h in (passes_says c k.0, passes_all cs k.1)
-
--- The one statement: each of the eleven holds, of the relations themselves. The checker computes the test.
-eleven : All Says table
-unfolding every test is_term_row answers agree table nodes read_term read_from takes
-eleven = passes_all table tt

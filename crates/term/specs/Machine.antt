@@ -1,5 +1,5 @@
 -- The matching machine: it reads a rule's cells from left to right and decides all four questions in one pass, without
--- looking for a filling. `Meaning` proves that it accepts exactly the rules that answer.
+-- looking for a filling. `decides` of proofs/Meaning says that it accepts exactly the rules that answer.
 use Rattle.std.specs.Prelude.{[], ◌∷◌, Bool, true, false, ℕ, zero, suc, ◌+◌, ◌/◌, eqb}
 use Rattle.term.specs.Cells.{Cell, vari, symb, Row, Blank, arity}
 use Rattle.term.specs.Questions.{Mode, variants, instances, generalisations, unifiables}

@@ -1,15 +1,15 @@
--- The machine answers each of the four questions: what it matches is what some filling gives, and the other way round.
-use Rattle.std.specs.Prelude.{◌≡◌, refl, ◌↔◌, true, false, ℕ, zero, suc, ◌+◌, ◌/◌, ◌≤◌, T, length}
+-- Why the machine answers each of the four questions: what it matches is what some filling gives, and the other way round. That it
+-- accepts exactly the rules that answer is `decides` of proofs/Meaning.
+use Rattle.std.specs.Prelude.{◌≡◌, refl, ◌↔◌, true, false, ℕ, zero, suc, ◌+◌, ◌/◌, ◌≤◌, length}
 use Rattle.std.proofs.Common.{sym, ap, ◌∙◌, subst, zero-add, arith}
 use mathlib.Core.List.{[], ◌∷◌, ◌++◌, append_assoc, head-eq_of_cons-eq, tail-eq_of_cons-eq}
 use Rattle.term.specs.Cells.{Cell, vari, symb, Row, Blank, blank, star, arity, Terms, none, more}
-use Rattle.term.specs.Questions.{Filling, fill, Mode, variants, instances, generalisations, unifiables, Answers}
-use Rattle.term.specs.Machine.{accepts}
+use Rattle.term.specs.Questions.{Filling, fill, instances, generalisations, Answers}
 use Rattle.term.specs.Preorder.{recount, Cut, cut, terms_append, no_cell, empty_none, open_row, shorter, same_rest}
-use Rattle.term.specs.Matching.{Match, end, both, left, right, flip, machine}
+use Rattle.term.specs.Matching.{Match, end, both, left, right}
 
 -- `Fill q u`: some filling of q gives u, cell by cell.
-data Fill : Row Blank → Row Blank → Type 0 where
+pub data Fill : Row Blank → Row Blank → Type 0 where
   nil : Fill [] []
   keep : {c : ℕ} {q u : Row Blank} → Fill q u → Fill (symb c ∷ q) (symb c ∷ u)
   put : {t q u : Row Blank} → Terms 1 t → Fill q u → Fill (star ∷ q) (t ++ u)
@@ -36,7 +36,7 @@ fill_later t w f k (symb c ∷ q) = ap (λ (l : Row Blank). symb c ∷ l) (fill_
 stars : Filling
 stars = record { at = λ k. star ∷ []; form = λ k. more tt none }
 
-to_filling : {q u : Row Blank} → Fill q u → (f : Filling) × (fill f 0 q ≡ u)
+pub to_filling : {q u : Row Blank} → Fill q u → (f : Filling) × (fill f 0 q ≡ u)
 unfolding fill with_first first_then
 to_filling nil = (stars, refl)
 to_filling (keep {c} x) = let i = to_filling x in (i.0, ap (λ (l : Row Blank). symb c ∷ l) i.1)
@@ -44,18 +44,18 @@ to_filling (put {t} {q} w x) =
     let i = to_filling x in
     (with_first t w i.0, ap (λ (l : Row Blank). t ++ l) (fill_later t w i.0 0 q ∙ i.1))
 
-of_filling : (f : Filling) (k : ℕ) (q : Row Blank) → Fill q (fill f k q)
+pub of_filling : (f : Filling) (k : ℕ) (q : Row Blank) → Fill q (fill f k q)
 unfolding fill
 of_filling f k [] = nil
 of_filling f k (vari blank ∷ q) = put (f.form k) (of_filling f (suc k) q)
 of_filling f k (symb c ∷ q) = keep (of_filling f k q)
 
 -- variants
-same : (q : Row Blank) → Match false false q q
+pub same : (q : Row Blank) → Match false false q q
 same [] = end
 same (c ∷ q) = both (same q)
 
-equal : {q r : Row Blank} → Match false false q r → q ≡ r
+pub equal : {q r : Row Blank} → Match false false q r → q ≡ r
 equal end = refl
 equal (both {c} x) = ap (λ (l : Row Blank). c ∷ l) (equal x)
 equal (left h w x) = absurd h
@@ -65,14 +65,14 @@ equal (right h w x) = absurd h
 put_star : {q u : Row Blank} → Fill q u → Fill (star ∷ q) (star ∷ u)
 put_star x = put {t = star ∷ []} (more tt none) x
 
-to_fill : {q r : Row Blank} → Match true false q r → Fill q r
+pub to_fill : {q r : Row Blank} → Match true false q r → Fill q r
 to_fill end = nil
 to_fill (both {c = vari blank} x) = put_star (to_fill x)
 to_fill (both {c = symb c} x) = keep (to_fill x)
 to_fill (left h w x) = put w (to_fill x)
 to_fill (right h w x) = absurd h
 
-of_fill : {q r : Row Blank} → Fill q r → Match true false q r
+pub of_fill : {q r : Row Blank} → Fill q r → Match true false q r
 of_fill nil = end
 of_fill (keep x) = both (of_fill x)
 of_fill (put w x) = left tt w (of_fill x)
@@ -88,7 +88,7 @@ fill_append nil y = y
 fill_append (keep x) y = keep (fill_append x y)
 fill_append {b} {v} (put {t} {q} {u} w x) y = rw append_assoc (put w (fill_append x y))
 
-joined : {q r : Row Blank} → Match true true q r → (u : Row Blank) × Fill q u × Fill r u
+pub joined : {q r : Row Blank} → Match true true q r → (u : Row Blank) × Fill q u × Fill r u
 joined end = ([], nil, nil)
 joined (both {c = vari blank} x) = let i = joined x in (star ∷ i.0, put_star i.1, put_star i.2)
 joined (both {c = symb c} x) = let i = joined x in (symb c ∷ i.0, keep i.1, keep i.2)
@@ -156,7 +156,7 @@ unify_empty : {n : ℕ} (r : Row Blank) → Terms {X = Blank} n [] → Terms n r
 unify_empty [] wq wr = end
 unify_empty (d ∷ r) wq wr = absurd (no_cell (recount (empty_none wq) wr))
 
-unify : (fuel n : ℕ) (q r u : Row Blank) → length q ≤ fuel → Terms n q → Terms n r → Fill q u → Fill r u → Match true true q r
+pub unify : (fuel n : ℕ) (q r u : Row Blank) → length q ≤ fuel → Terms n q → Terms n r → Fill q u → Fill r u → Match true true q r
 unify zero n [] r u l wq wr x y = unify_empty r wq wr
 unify zero n (c ∷ q) r u l wq wr x y = absurd (omega arith)
 unify (suc f) n [] r u l wq wr x y = unify_empty r wq wr
@@ -184,20 +184,6 @@ unify (suc f) n (symb c ∷ q) (symb d ∷ r) u l wq wr x y =
     let k : d / 4096 + b.count ≡ c / 4096 + a.count = counts c d a.count b.count n ec a.is b.is in
     rw ec (both (unify f (c / 4096 + a.count) q r i.0 (omega arith) a.forms (recount k b.forms) i.2
     (subst (λ (s : Row Blank). Fill r s) (sym (tail-eq_of_cons-eq e)) j.2)))
-
--- For all four questions and all terms: the machine accepts exactly when the rule answers.
-pub decides : (m : Mode) (q r : Row Blank) → Terms 1 q → Terms 1 r → T (accepts m q r) ↔ Answers m q r
-unfolding Answers
-decides variants q r wq wr = let e = machine false false 1 q r wq wr in
-    (λ h. equal (e.0 h), λ p. e.1 (subst (λ (s : Row Blank). Match false false q s) p (same q)))
-decides instances q r wq wr = let e = machine true false 1 q r wq wr in
-    (λ h. to_filling (to_fill (e.0 h)), λ a. e.1 (of_fill (subst (λ (s : Row Blank). Fill q s) a.1 (of_filling a.0 0 q))))
-decides generalisations q r wq wr = let e = machine false true 1 q r wq wr in
-    (λ h. to_filling (to_fill (flip (e.0 h))), λ a. e.1 (flip (of_fill (subst (λ (s : Row Blank). Fill r s) a.1 (of_filling a.0 0 r)))))
-decides unifiables q r wq wr = let e = machine true true 1 q r wq wr in (
-  λ h. let j = joined (e.0 h) in let f = to_filling j.1 in let g = to_filling j.2 in (f.0, g.0, f.1 ∙ sym g.1),
-  λ a. e.1 (unify (length q) 1 q r (fill a.1 0 r) (omega arith) wq wr (subst (λ (s : Row Blank). Fill q s) a.2 (of_filling a.0 0 q)) (of_filling a.1 0 r)),
-)
 
 -- A rule is a generalisation of a pattern exactly when that pattern, were it the rule, is an instance of it.
 pub other_way : (q r : Row Blank) → Answers generalisations q r ↔ Answers instances r q

@@ -1,7 +1,7 @@
 // Cells, terms and the matching machine: what the rule book knows of a pattern.
 //
 // The meaning stands in specs/: `Cells`, `Reading`, `Questions` and `Beginnings` are the reference's words, `Machine` is the
-// way by which the four questions are decided, and `Meaning` proves that the machine decides them.
+// way by which the four questions are decided, and `decides` of proofs/Meaning says that the machine decides them.
 #![tactic(auto)]
 
 pub mod machine;

@@ -13,7 +13,7 @@ use Rattle.tokens.specs.Tokens.{skip}
 use Rattle.tokens.specs.Places.{LeftFrom}
 use Rattle.tokens.specs.Ahead.{place_is}
 use Rattle.text.specs.Term.{Token, variable}
-use Rattle.text.specs.Naming.{TokenCells, named, naming}
+use Rattle.text.specs.Naming.{TokenCells, naming}
 use Rattle.text.specs.Steps.{cells_many}
 use Rattle.text.specs.Text.{Answer, refused, padded, term_of, read_text}
 use Rattle.text.specs.Promises.{told, refused_read, table_of, Reads, has_read}
