@@ -241,7 +241,7 @@ module _ (names : List (List ℕ)) (free : ℕ) (text : List ℕ) where
   of_token {k = k} (no_room t e l) s = absurd (t k s)
   of_token {k = k} (is_read t e l) s = absurd (t k s)
 
-  -- .. or the reading's (faultOf text)
+  -- .. or the reading's (fault_of text)
   pub of_fault : {a : Answer} → Because a → AllTaken names text → ¬ ((fault_of text) ≡ 0) → a ≡ refused names (fault_of text) (pick (eqb (fault_of text) 20) (stop_of text) 0)
   of_fault (a_token {k} r) t n = absurd (t k r)
   of_fault (a_fault s e m) t n = ap (λ (k : ℕ). refused names k (pick (eqb k 20) (stop_of text) 0)) (sym e)
