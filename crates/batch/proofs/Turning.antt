@@ -6,11 +6,13 @@ use native.Mathlib.Omega.{arith}
 use native.Mathlib.Decide.{dec_lt}
 use lib.ListN.{length, take, drop, length-append, length-drop}
 use lib.Seq.{take_at, drop_at, drop-drop}
+use Rattle.std.specs.Prelude.{Option, Some, None, Result, Ok, Err}
 use Rattle.book.specs.Rules.{Rules}
 use Rattle.book.specs.Memory.{Passing, rules_in}
 use Rattle.commands.specs.Records.{cells_of, written}
 use Rattle.commands.specs.declared.reader.Command.{Command}
-use Rattle.commands.specs.Commands.{command_in}
+use Rattle.commands.specs.declared.reader.Refusal.{Refusal}
+use Rattle.commands.specs.Commands.{refusal_number, command_of, command_size}
 use Rattle.batch.specs.Effects.{Change, Effect, does}
 use Rattle.batch.specs.Run.{Outcome, is_going_on, run}
 use Rattle.batch.specs.Promises.{Becomes, Does, Came, Ran}
@@ -31,30 +33,23 @@ all_used ws out p = subst (λ (o : Outcome). Came o ws ws out out 0 0 0) (sym (r
 
 -- ---- one command
 
-module _ (ws ws₁ behind out out₁ : List ℕ) (c n : ℕ) where
-  abbrev command : Command
-  command = command_in (c ∷ behind)
+module _ (ws ws₁ behind out out₁ : List ℕ) (c : ℕ) (n : Option ℕ) where
+  abbrev command : Result Command Refusal
+  command = command_of c behind
 
   abbrev e : Effect
   e = does (rules_in ws) behind command
 
   module _ (done : Does e ws ws₁ out out₁ n) where
     -- where nothing was written there was no room
-    short : n ≡ 0 → length out ≤ length e.answer.cells
+    short : n ≡ None → length out ≤ length e.answer.cells
     short z = go (dec_lt (length e.answer.cells) (length out))
       where
         go : Dec (length e.answer.cells < length out) → length out ≤ length e.answer.cells
-        go (yes l) = let w = (done.writes.fits l).0 in absurd (omega arith)
+        go (yes l) = let w = (done.writes.fits l).0 in absurd (let x : ◌≡◌ {A = ℕ} 0 1 = cc in omega arith)
         go (no l) = omega arith
 
-    pub fits : ¬ (n ≡ 0) → length e.answer.cells < length out
-    fits z = go (dec_lt (length e.answer.cells) (length out))
-      where
-        go : Dec (length e.answer.cells < length out) → length e.answer.cells < length out
-        go (yes l) = l
-        go (no l) = absurd (z (done.writes.short (omega arith)).0)
-
-    pub no_room : Passing ws → n ≡ 0 → Ran ws ws₁ (c ∷ behind) out out₁ 10 0 0
+    pub no_room : Passing ws → n ≡ None → Ran ws ws₁ (c ∷ behind) out out₁ 10 0 0
     unfolding written
     no_room p z =
         let l = short z in
@@ -69,50 +64,68 @@ module _ (ws ws₁ behind out out₁ : List ℕ) (c n : ℕ) where
         })
 
     -- there is room
-    module _ (z : ¬ (n ≡ 0)) where
-      wide : length (cells_of e.answer) ≡ n
-      wide = sym (done.writes.fits (fits z)).0
+    module _ (k : ℕ) (z : n ≡ Some k) where
+      pub fits : length e.answer.cells < length out
+      fits = go (dec_lt (length e.answer.cells) (length out))
+        where
+          go : Dec (length e.answer.cells < length out) → length e.answer.cells < length out
+          go (yes l) = l
+          go (no l) = let w = (done.writes.short (omega arith)).0 in absurd (let x : ◌≡◌ {A = ℕ} 0 1 = cc in omega arith)
 
-      pub stops : (stop : ℕ) → stop ≡ command.stop → ¬ (stop ≡ 0) → Ran ws ws₁ (c ∷ behind) out out₁ stop 0 n
+      wide : length (cells_of e.answer) ≡ k
+      wide = let w = (done.writes.fits fits).0 in cc
+
+      pub enough : k ≤ length out
+      enough = let f = fits in omega (arith, wide)
+
+      output : out₁ ≡ cells_of e.answer ++ drop k out
+      output = (done.writes.fits fits).1 ∙ ap (λ (j : ℕ). cells_of e.answer ++ drop j out) wide
+
+      pub stops : (why : Refusal) → command ≡ Err why → Ran ws ws₁ (c ∷ behind) out out₁ (refusal_number why) 0 k
       unfolding written
-      stops stop s d =
-          subst (λ (o : Outcome). Came o ws ws₁ out out₁ stop 0 n) (sym (run_stops (rules_in ws) c behind (length out) (fits z) (λ q. d (s ∙ q))))
+      stops why d =
+          subst (λ (o : Outcome). Came o ws ws₁ out out₁ (refusal_number why) 0 k) (sym (run_stops (rules_in ws) c behind (length out) why fits d))
           (record {
-            stop_is = s;
+            stop_is = refl;
             used_is = refl;
             written_is = sym wide ∙ ap length (sym (append-nil (cells_of e.answer)));
-            output = (done.writes.fits (fits z)).1 ∙ ap (λ (l : List ℕ). l ++ drop n out) (sym (append-nil (cells_of e.answer)));
-            book = done.fits (fits z);
+            output = output ∙ ap (λ (l : List ℕ). l ++ drop k out) (sym (append-nil (cells_of e.answer)));
+            book = done.fits fits;
           })
 
-      front : take n out₁ ≡ cells_of e.answer
-      front = ap (take n) (done.writes.fits (fits z)).1 ∙ take_at (cells_of e.answer) (drop n out) n wide
+      front : take k out₁ ≡ cells_of e.answer
+      front = ap (take k) output ∙ take_at (cells_of e.answer) (drop k out) k wide
 
-      back : drop n out₁ ≡ drop n out
-      back = ap (drop n) (done.writes.fits (fits z)).1 ∙ drop_at (cells_of e.answer) (drop n out) n wide
+      back : drop k out₁ ≡ drop k out
+      back = ap (drop k) output ∙ drop_at (cells_of e.answer) (drop k out) k wide
 
-      room_left : length out - suc (length e.answer.cells) ≡ length (drop n out₁)
-      room_left = ap (λ (k : ℕ). length out - k) wide ∙ sym (length-drop n out) ∙ ap length (sym back)
+      room_left : length out - suc (length e.answer.cells) ≡ length (drop k out₁)
+      room_left = ap (λ (j : ℕ). length out - j) wide ∙ sym (length-drop k out) ∙ ap length (sym back)
 
-      came : (o : Outcome) (ws' part : List ℕ) (stop used k : ℕ) → Came o ws₁ ws' (drop n out₁) part stop used k
-          → Came (is_going_on (suc command.size) e o) ws ws' out (take n out₁ ++ part) stop (suc command.size + used) (n + k)
-      unfolding written
-      came o ws' part stop used k x = record {
-        stop_is = x.stop_is;
-        used_is = ap (λ (j : ℕ). suc command.size + j) x.used_is;
-        written_is = ap₂ (λ (a b : ℕ). a + b) (sym wide) x.written_is ∙ sym (length-append (cells_of e.answer) (written o.records));
-        output = ap₂ (λ (a b : List ℕ). a ++ b) front
-            (x.output ∙ ap (λ (l : List ℕ). written o.records ++ l) (ap (drop k) back ∙ drop-drop k n out))
-            ∙ sym (append_assoc (cells_of e.answer) (written o.records) (drop (n + k) out));
-        book = becomes ws ws₁ ws' e.rules o.rules e.changes o.changes (done.fits (fits z)) x.book;
-      }
+      module _ (first : Command) (s : command ≡ Ok first) where
+        came : (o : Outcome) (ws' part : List ℕ) (stop used j : ℕ) → Came o ws₁ ws' (drop k out₁) part stop used j
+            → Came (is_going_on (suc first.size) e o) ws ws' out (take k out₁ ++ part) stop (suc first.size + used) (k + j)
+        unfolding written
+        came o ws' part stop used j x = record {
+          stop_is = x.stop_is;
+          used_is = ap (λ (i : ℕ). suc first.size + i) x.used_is;
+          written_is = ap₂ (λ (a b : ℕ). a + b) (sym wide) x.written_is ∙ sym (length-append (cells_of e.answer) (written o.records));
+          output = ap₂ (λ (a b : List ℕ). a ++ b) front
+              (x.output ∙ ap (λ (l : List ℕ). written o.records ++ l) (ap (drop j) back ∙ drop-drop j k out))
+              ∙ sym (append_assoc (cells_of e.answer) (written o.records) (drop (k + j) out));
+          book = becomes ws ws₁ ws' e.rules o.rules e.changes o.changes (done.fits fits) x.book;
+        }
 
-      pub goes_on : command.stop ≡ 0 → (ws' part : List ℕ) (stop used k : ℕ) → Ran ws₁ ws' (drop command.size behind) (drop n out₁) part stop used k
-          → Ran ws ws' (c ∷ behind) out (take n out₁ ++ part) stop (suc command.size + used) (n + k)
-      goes_on s ws' part stop used k x = subst (λ (o : Outcome). Came o ws ws' out (take n out₁ ++ part) stop (suc command.size + used) (n + k))
-          (sym is) (came _ ws' part stop used k x)
-        where
-          is : run (rules_in ws) (c ∷ behind) (length out) ≡ is_going_on (suc command.size) e (run (rules_in ws₁) (drop command.size behind) (length (drop n out₁)))
-          is =
-              run_goes_on (rules_in ws) c behind (length out) (fits z) s
-              ∙ ap (is_going_on (suc command.size) e) (ap₂ (λ (r : Rules) (j : ℕ). run r (drop command.size behind) j) (sym (done.fits (fits z)).rules_are) room_left)
+        pub goes_on : (ws' part : List ℕ) (stop used j : ℕ) → Ran ws₁ ws' (drop first.size behind) (drop k out₁) part stop used j
+            → Ran ws ws' (c ∷ behind) out (take k out₁ ++ part) stop (suc first.size + used) (k + j)
+        goes_on ws' part stop used j x = subst (λ (o : Outcome). Came o ws ws' out (take k out₁ ++ part) stop (suc first.size + used) (k + j))
+            (sym is) (came _ ws' part stop used j x)
+          where
+            size : command_size command ≡ first.size
+            size = ap command_size s
+
+            is : run (rules_in ws) (c ∷ behind) (length out) ≡ is_going_on (suc first.size) e (run (rules_in ws₁) (drop first.size behind) (length (drop k out₁)))
+            is =
+                run_goes_on (rules_in ws) c behind (length out) first fits s
+                ∙ ap (λ (i : ℕ). is_going_on (suc first.size) e (run e.rules (drop i behind) (length out - suc (length e.answer.cells)))) size
+                ∙ ap (is_going_on (suc first.size) e) (ap₂ (λ (r : Rules) (i : ℕ). run r (drop first.size behind) i) (sym (done.fits fits).rules_are) room_left)

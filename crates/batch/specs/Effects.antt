@@ -1,15 +1,15 @@
 -- What a command does: Reference 6, 7 and 9.
-use Rattle.std.specs.Prelude.{List, [], ◌∷◌, ℕ, eqb, take}
-use Rattle.deciding.specs.Deciding.{pick}
+use Rattle.std.specs.Prelude.{List, [], ◌∷◌, ℕ, take, Result, Ok, Err}
 use Rattle.term.specs.Questions.{Mode}
 use Rattle.book.specs.Rules.{Rule, plain, Held, nothing, rule, Rules, with_rule, without_rule, rule_count, nodes_of, refusal_of_add, judged, after, removal, refusal_of_remove}
-use Rattle.book.specs.declared.Added.{Added}
-use Rattle.book.specs.declared.Added.TheVariants.{Taken, HeldAlready, BookFull, NoNodes}
+use Rattle.book.specs.declared.NotAdded.{NotAdded}
 use Rattle.questions.specs.Asking.{answers}
 use Rattle.commands.specs.Records.{Record, bare, good}
 use Rattle.commands.specs.declared.reader.Command.{Command}
+use Rattle.commands.specs.declared.reader.Refusal.{Refusal}
+use Rattle.commands.specs.Commands.{refusal_number}
 use Rattle.commands.specs.declared.kinds.Act.{Act}
-use Rattle.commands.specs.declared.kinds.Act.TheVariants.{Unknown, Add, Remove, Ask, Show, Room}
+use Rattle.commands.specs.declared.kinds.Act.TheVariants.{Add, Remove, Ask, Show, Room}
 use Rattle.commands.specs.Kinds.{mode_of}
 
 -- How the set of rules changes: by one rule more, or one less, under its number.
@@ -40,11 +40,9 @@ pub record Effect : Type 0 where
 abbrev pub tells : Record → Rules → Effect
 tells answer rules = record { answer = answer; rules = rules; changes = [] }
 
-abbrev pub change_of : Added → ℕ → Rule → List Change
-change_of Taken k r = more k r ∷ []
-change_of HeldAlready k r = []
-change_of BookFull k r = []
-change_of NoNodes k r = []
+abbrev pub change_of : Result (Unit {0}) NotAdded → ℕ → Rule → List Change
+change_of (Ok made) k r = more k r ∷ []
+change_of (Err why) k r = []
 
 abbrev pub adds : Rules → ℕ → Rule → Effect
 adds rules k r = record {
@@ -76,15 +74,15 @@ shows rules k = tells (shown (rules k)) rules
 abbrev pub counts : Rules → Effect
 counts rules = tells (good (rule_count rules ∷ nodes_of rules ∷ [])) rules
 
--- What each act does to a set of rules, under a number and with a term. Of an unknown kind no command is done.
+-- What each act does to a set of rules, under a number and with a term.
 abbrev pub acts : Act → Rules → ℕ → List ℕ → Effect
-acts Unknown rules k term = tells (bare 2) rules
 acts Add rules k term = adds rules k (plain term)
 acts Remove rules k term = removes rules k
 acts (Ask fillsQ fills_r) rules k term = asks rules (mode_of fillsQ fills_r) term
 acts Show rules k term = shows rules k
 acts Room rules k term = counts rules
 
--- What a command does, with the cells behind its command cell: one that stops the batch only tells with which number.
-unfoldable pub does : Rules → List ℕ → Command → Effect
-does rules behind c = pick (eqb c.stop 0) (acts c.act rules c.number (take c.size behind)) (tells (bare c.stop) rules)
+-- What a command as it was read does, with the cells behind its command cell: a refused one only tells its refusal.
+unfoldable pub does : Rules → List ℕ → Result Command Refusal → Effect
+does rules behind (Ok c) = acts c.act rules c.number (take c.size behind)
+does rules behind (Err why) = tells (bare (refusal_number why)) rules

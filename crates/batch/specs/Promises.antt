@@ -1,6 +1,9 @@
 -- What the batch's functions promise.
-use Rattle.std.specs.Prelude.{◌≡◌, List, [], ◌∷◌, ◌++◌, ℕ, ◌≤◌, ◌<◌, length, drop}
+use Rattle.std.specs.Prelude.{◌≡◌, List, [], ◌∷◌, ◌++◌, ℕ, ◌≤◌, ◌<◌, length, drop, Option}
 use Rattle.shape.specs.Shape.{Shape}
+use Rattle.bits.specs.Numbers.{has}
+use Rattle.term.specs.Questions.{Mode}
+use Rattle.questions.specs.Asking.{numbers, numbers_in_order, answers}
 use Rattle.book.specs.Rules.{Rules}
 use Rattle.book.specs.Memory.{view, Passing, rules_in}
 use Rattle.change.specs.Promises.{TakesLowest, TakesNone}
@@ -32,11 +35,17 @@ pub record Becomes (ws ws' : List ℕ) (rules : Rules) (changes : List Change) :
   pub rules_are : rules_in ws' ≡ rules
   pub along : Along changes ws ws'
 
--- A command is done, and its record written; or there is no room for it, and nothing has changed.
-pub record Does (e : Effect) (ws ws' out out' : List ℕ) (n : ℕ) : Type 0 where
+-- A command is done, and its record written in so many cells; or there is no room for it, and nothing has changed.
+pub record Does (e : Effect) (ws ws' out out' : List ℕ) (n : Option ℕ) : Type 0 where
   pub writes : Writes e.answer out out' n
   pub fits : length e.answer.cells < length out → Becomes ws ws' e.rules e.changes
   pub short : length out ≤ length e.answer.cells → ws' ≡ ws
+
+-- The rules that answer a question are marked, and no other number of a rule.
+pub record Marked (rules : Rules) (mode : Mode) (question marks : List ℕ) : Type 0 where
+  pub in_order : numbers_in_order rules (has marks) ≡ answers mode question rules
+  pub many : length (numbers (has marks) 4096) ≡ length (answers mode question rules)
+  pub few : length (numbers (has marks) 4096) ≤ 512
 
 -- An outcome has come about: stop, used and written are its own; its records stand from the front of the output, and what stood behind them stays; the book holds its rules.
 pub record Came (o : Outcome) (ws ws' out out' : List ℕ) (stop used n : ℕ) : Type 0 where

@@ -1,63 +1,94 @@
 // The batch: commands in turn, over a book in lent memory.
+//
+// Book, marks and output are lent apart and not as one struct: a question, a show and the counts only read the book, and so
+// promise nothing of it.
 #![tactic(auto)]
 
 pub mod records;
 
-ghost use Rattle.std.specs.Prelude.{◌≡◌, ◌+◌, ◌≤◌, ◌<◌, length, drop};
+ghost use Rattle.std.specs.Prelude.{◌≡◌, ◌≤◌, length, IfOk};
 ghost use Rattle.book.specs.Memory.{Passing, rules_in};
 ghost use Rattle.commands.specs.Commands.{Read};
 ghost use Rattle.batch.specs.Effects.{does};
+ghost use Rattle.batch.specs.Run.{stop_number, stop_of};
 ghost use Rattle.batch.specs.Promises.{Does, Ran, Runs};
 
 use commands::kinds::Act;
 use commands::reader;
-use commands::reader::Command;
+use commands::reader::{Command, Refusal};
 use commands::records::put_bare;
+use std::error::Error;
+use std::fmt;
 
-// How a batch ends: the stop number, cells used, cells written.
-#[derive(Drop)]
+// Why a batch stops before all its cells are used.
+#[derive(Clone, Copy, Debug, PartialEq, Eq)]
+pub enum Stop {
+    // The memory is no book.
+    NotABook,
+    // A command is refused.
+    Refused(Refusal),
+    // A record has no room.
+    NoRoom,
+}
+
+// The stop number.
+impl From<Stop> for u64 {
+    ghost from_gives = { λ why stop. stop ≡ stop_number why };
+
+    fn from(why: Stop) -> u64 {
+        match why {
+            Stop::NotABook => 1,
+            Stop::Refused(refusal) => u64::from(refusal),
+            Stop::NoRoom => 10,
+        }
+    }
+}
+
+impl fmt::Display for Stop {
+    fn fmt<W: fmt::Write>(&self, f: &mut fmt::Formatter<W>) -> fmt::Result {
+        match self {
+            Stop::NotABook => f.write_str("the memory is no book"),
+            Stop::Refused(refusal) => write!(f, "{refusal}"),
+            Stop::NoRoom => f.write_str("a record has no room"),
+        }
+    }
+}
+
+impl Error for Stop {}
+
+// How a batch ends: why it stops, none where all cells are used; cells used, cells written.
+#[derive(Clone, Copy, Debug, PartialEq, Eq)]
 pub struct Ended {
-    pub stop: u64,
+    pub stop: Option<Stop>,
     pub used: usize,
     pub written: usize,
 }
 
-// Does a command, with the cells from `from` on behind it, and writes its record; the cells written, 0 where there is no room.
-// The marks are memory for a question to work in.
+// Does a command, with the cells behind it, and writes its record; the cells written, none where there is no room. The marks are
+// memory for a question to work in.
 fn do_command(
     book: &mut [u64],
-    cells: &[u16],
-    from: usize,
-    command: Command,
+    read: Result<Command, Refusal>,
+    behind: &[u16],
     marks: &mut [u64],
     out: &mut [u16],
-) -> usize
+) -> Option<usize>
     requires passing { Passing book.old }
-    requires from_in_bounds { from ≤ length cells.now }
-    requires read { Read (drop from cells.now) command }
+    requires read { IfOk read (λ c. Read behind.now c) }
     requires marks_len { length marks.old ≡ 65 }
-    ensures { Does (does (rules_in book.old) (drop from cells.now) command) book.old book.new out.old out.new result }
+    ensures { Does (does (rules_in book.old) behind.now read) book.old book.new out.old out.new result }
 {
-    let stop = command.stop;
-    if stop != 0 {
-        return put_bare(stop, out);
-    }
-    let act = command.act;
+    let command = match read {
+        Ok(command) => command,
+        Err(refusal) => return put_bare(u64::from(refusal), out),
+    };
     let number = command.number;
-    let end = from + command.size;
-    match act {
-        Act::Unknown => put_bare(2, out),
-        Act::Add => records::add(book, number, &cells[from..end], out),
+    let term = &behind[..command.size];
+    match command.act {
+        Act::Add => records::add(book, number, term, out),
         Act::Remove => records::remove(book, number, out),
         Act::Ask(fills_question, fills_rule) => {
-            records::ask(
-                book,
-                fills_question,
-                fills_rule,
-                &cells[from..end],
-                marks,
-                out,
-            )
+            records::ask(book, fills_question, fills_rule, term, marks, out)
         }
         Act::Show => records::show(book, number, out),
         Act::Room => records::room(book, out),
@@ -67,41 +98,34 @@ fn do_command(
 // The commands in turn, on a book that passes. The marks are made once, since no question minds what an earlier one left there.
 fn run_commands(book: &mut [u64], commands: &[u16], output: &mut [u16]) -> Ended
     requires { Passing book.old }
-    ensures { Ran book.old book.new commands.now output.old output.new result.stop result.used result.written }
+    ensures { Ran book.old book.new commands.now output.old output.new (stop_of result.stop) result.used result.written }
 {
-    let mut marks = [0u64; 65];
-    let mut used: usize = 0;
-    let mut written: usize = 0;
-    while used < commands.len() {
-        let command = reader::read_command(commands, used);
-        let n = do_command(
-            book,
-            commands,
-            used + 1,
-            command,
-            &mut marks,
-            &mut output[written..],
-        );
-        if n == 0 {
+    let mut marks = [0; 65];
+    let mut used = 0;
+    let mut written = 0;
+    while let Some(read) = reader::read_command(commands, used) {
+        let behind = &commands[used + 1..];
+        let Some(n) = do_command(book, read, behind, &mut marks, &mut output[written..]) else {
             return Ended {
-                stop: 10,
+                stop: Some(Stop::NoRoom),
                 used,
                 written,
             };
-        }
+        };
         written += n;
-        let stop = command.stop;
-        if stop != 0 {
-            return Ended {
-                stop,
-                used,
-                written,
-            };
+        match read {
+            Ok(command) => used += 1 + command.size,
+            Err(refusal) => {
+                return Ended {
+                    stop: Some(Stop::Refused(refusal)),
+                    used,
+                    written,
+                };
+            }
         }
-        used += 1 + command.size;
     }
     Ended {
-        stop: 0,
+        stop: None,
         used,
         written,
     }
@@ -109,11 +133,11 @@ fn run_commands(book: &mut [u64], commands: &[u16], output: &mut [u16]) -> Ended
 
 // A batch, for any memory, any cells and any room.
 pub fn run(book: &mut [u64], commands: &[u16], output: &mut [u16]) -> Ended
-    ensures { Runs book.old book.new commands.now output.old output.new result.stop result.used result.written }
+    ensures { Runs book.old book.new commands.now output.old output.new (stop_of result.stop) result.used result.written }
 {
     if !passing::passes(book) {
         return Ended {
-            stop: 1,
+            stop: Some(Stop::NotABook),
             used: 0,
             written: 0,
         };

@@ -2,14 +2,19 @@
 use mathlib.Core.Path.{◌≡◌, refl, sym, ap, ap₂, ◌∙◌, subst}
 use mathlib.Core.List.{List, [], ◌∷◌, ◌++◌}
 use Prim.Native.Nat.{ℕ, zero, suc, ◌+◌, ◌-◌, ◌*◌, ◌/◌, ◌%◌, ◌^◌, ◌≤◌, ◌<◌}
-use native.Mathlib.Nat.{mod-lt, mod-mod, mod-eq_of_lt, div-eq_of_lt, mul-mod_left, suc-add, zero-add, add_comm, mul_assoc, mul-one}
+use native.Mathlib.Nat.{mod-lt, mod-mod, mod-eq_of_lt, div-eq_of_lt, mul-mod_left, add_comm, mul_assoc, mul-one}
 use native.Mathlib.Omega.{arith}
 use lib.ListN.{length, get_or, set}
 use lib.Seq.{set-append_left}
-use lib.Pow.{pow-add, shr-shr, shl-shr, field, mod-mod-pow, shr_lt, high, low, ones_lt, ones_split, shl_exact}
+use Rattle.std.proofs.lemmas.List.{set-append_right}
+use lib.Dec.{eqb}
+use lib.Pow.{pow_pos, pow-add, shr-shr, shl-shr, field, mod-mod-pow, shr_lt, high, low, ones_lt, ones_split, shl_exact}
+use Rattle.std.proofs.lemmas.Nat.Bits.{and_pow}
+use mathlib.Core.Bool.{not}
+use borrow.Author.Tests.{eq-eqb, ne_eqb}
 use lib.Bits.{bit_and, bit_or, and_shr, and_mod, or_shr, or_mod, and_mask, and_zero_r, or_zero_r}
 use Rattle.bits.specs.Packed.{parts, unpack, fields, bits}
-use Rattle.bits.specs.Laws.{length_parts}
+use Rattle.bits.specs.Laws.{length_parts, get_bit}
 
 -- w' is w with v in the field of k bits from bit s on
 pub record Put (k s w v w' : ℕ) : Type 0 where
@@ -51,10 +56,6 @@ module _ (k t w v w' : ℕ) (p : Put k (t * k) w v w') where
       ap₂ (λ (x : ℕ) (l : List ℕ). x ∷ l) (ap (λ (x : ℕ). w' / 2 ^ (x * k) % 2 ^ k) e ∙ p.here) (parts_same k m w w' (λ u l. below u (omega arith)))
   set_parts (suc m) (suc j) h = ap₂ (λ (x : ℕ) (l : List ℕ). x ∷ l) (above m (omega arith)) (set_parts m j (omega arith))
 
-set_append_add : (xs ys : List ℕ) (n v : ℕ) → set (xs ++ ys) (length xs + n) v ≡ xs ++ set ys n v
-set_append_add [] ys n v = ap (λ (i : ℕ). set ys i v) (zero-add n)
-set_append_add (x ∷ xs) ys n v = ap (λ (i : ℕ). set (x ∷ xs ++ ys) i v) (suc-add (length xs) n) ∙ ap (λ (l : List ℕ). x ∷ l) (set_append_add xs ys n v)
-
 module _ (k m : ℕ) where
   set_word : (ws : List ℕ) (q j v w' : ℕ) → q < length ws → j < m → parts k m w' ≡ set (parts k m (get_or ws q 0)) j v
       → unpack k m (set ws q w') ≡ set (unpack k m ws) (q * m + j) v
@@ -67,7 +68,8 @@ module _ (k m : ℕ) where
   set_word (w ∷ ws) (suc q) j v w' l h e =
       let i : suc q * m + j ≡ length (parts k m w) + (q * m + j) = rw length_parts (omega arith) in
       ap (λ (x : List ℕ). parts k m w ++ x) (set_word ws q j v w' (omega arith) h e)
-      ∙ sym (set_append_add (parts k m w) (unpack k m ws) (q * m + j) v)
+      ∙ ap (λ (x : ℕ). parts k m w ++ set (unpack k m ws) x v) (omega arith)
+      ∙ sym (set-append_right (parts k m w) (unpack k m ws) (length (parts k m w)) (length (parts k m w) + (q * m + j)) v refl (omega arith))
       ∙ ap (λ (x : ℕ). set (parts k m w ++ unpack k m ws) x v) (sym i)
 
 -- ---- what the code's masks and shifts do to a word
@@ -130,11 +132,9 @@ write_put k s w v l h f =
     subst (λ (y : ℕ). Put k s w v (bit_or (bit_and w ((2 ^ 64 - 1) - ((2 ^ k - 1) * 2 ^ s) % 2 ^ 64)) y)) (sym (shl_exact k s 64 f l))
     (or_put k s w _ 0 v v f refl (clear_put k s w l h))
 
-mark_put : (s w : ℕ) → s < 64 → Put 1 s w 1 (bit_or w ((1 * 2 ^ s) % 2 ^ 64))
-mark_put s w h =
-    subst (λ (y : ℕ). Put 1 s w 1 (bit_or w y)) (sym (shl_exact 1 s 64 (omega arith) (omega arith)))
-    (or_put 1 s w w (w / 2 ^ s % 2 ^ 1) 1 1 (omega arith) (or_one (w / 2 ^ s % 2) (mod-lt (w / 2 ^ s) (omega arith)))
-    (record { lower = refl; here = refl; upper = refl }))
+mark_put : (s w : ℕ) → Put 1 s w 1 (bit_or w (1 * 2 ^ s))
+mark_put s w = or_put 1 s w w (w / 2 ^ s % 2 ^ 1) 1 1 (omega arith) (or_one (w / 2 ^ s % 2) (mod-lt (w / 2 ^ s) (omega arith)))
+    (record { lower = refl; here = refl; upper = refl })
 
 -- ---- the stores of the code
 
@@ -156,9 +156,28 @@ module _ (ws : List ℕ) (n : ℕ) (h : n < 64 * length ws) where
       (n % 64) (omega arith))
       ∙ ap (λ (x : ℕ). set (bits ws) x v) at
 
-  pub mark_bit : bits (set ws (n / 64) (bit_or (get_or ws (n / 64) 0) ((1 * 2 ^ (63 - n % 64)) % 2 ^ 64))) ≡ set (bits ws) n 1
-  mark_bit = put_bit 1 _ (mark_put (63 - n % 64) (get_or ws (n / 64) 0) (omega arith))
+  -- b is the bit of n in its word
+  module _ (b : ℕ) (e : b ≡ 2 ^ (63 - n % 64)) where
+    one : 1 * 2 ^ (63 - n % 64) ≡ b
+    one = omega arith
 
-  pub clear_bit : get_or ws (n / 64) 0 < 2 ^ 64
-      → bits (set ws (n / 64) (bit_and (get_or ws (n / 64) 0) ((2 ^ 64 - 1) - (1 * 2 ^ (63 - n % 64)) % 2 ^ 64))) ≡ set (bits ws) n 0
-  clear_bit b = put_bit 0 _ (clear_put 1 (63 - n % 64) (get_or ws (n / 64) 0) (omega arith) b)
+    pub mark_bit : bits (set ws (n / 64) (bit_or (get_or ws (n / 64) 0) b)) ≡ set (bits ws) n 1
+    mark_bit = put_bit 1 _ (subst (λ (y : ℕ). Put 1 (63 - n % 64) (get_or ws (n / 64) 0) 1 (bit_or (get_or ws (n / 64) 0) y)) one
+        (mark_put (63 - n % 64) (get_or ws (n / 64) 0)))
+
+    pub clear_bit : get_or ws (n / 64) 0 < 2 ^ 64 → bits (set ws (n / 64) (bit_and (get_or ws (n / 64) 0) ((2 ^ 64 - 1) - b))) ≡ set (bits ws) n 0
+    clear_bit h = put_bit 0 _ (subst (λ (y : ℕ). Put 1 (63 - n % 64) (get_or ws (n / 64) 0) 0 (bit_and (get_or ws (n / 64) 0) ((2 ^ 64 - 1) - y)))
+        (shl_exact 1 (63 - n % 64) 64 (omega arith) (omega arith) ∙ one) (clear_put 1 (63 - n % 64) (get_or ws (n / 64) 0) (omega arith) h))
+
+-- `w & b`
+left : (d b : ℕ) → d < 2 → 0 < b → not (eqb (d * b) 0) ≡ eqb d 1
+left zero b h l = rw (eq-eqb (0 * b) 0 (omega arith))
+left (suc zero) b h l = rw (ne_eqb (1 * b) 0 (λ e. absurd (omega arith)))
+left (suc (suc d)) b h l = absurd (omega arith)
+
+pub masked_bit : (ws : List ℕ) (n b : ℕ) → b ≡ 2 ^ (63 - n % 64) → not (eqb (bit_and (get_or ws (n / 64) 0) b) 0) ≡ eqb (get_or (bits ws) n 0) 1
+masked_bit ws n b e =
+    let s : ℕ = 63 - n % 64 in
+    let w : ℕ = get_or ws (n / 64) 0 in
+    ap (λ (x : ℕ). not (eqb (bit_and w x) 0)) e ∙ ap (λ (x : ℕ). not (eqb x 0)) (and_pow w s)
+    ∙ left (w / 2 ^ s % 2) (2 ^ s) (mod-lt (w / 2 ^ s) (omega arith)) (pow_pos s) ∙ ap (λ (x : ℕ). eqb x 1) (sym (get_bit ws n))

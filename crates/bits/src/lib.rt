@@ -6,8 +6,8 @@
 
 pub mod numbers;
 
-ghost use Rattle.std.specs.Prelude.{◌≡◌, ◌+◌, ◌*◌, ◌≤◌, ◌<◌, eqb, length, get_or, set, replicate, true, false};
-ghost use Rattle.bits.specs.Packed.{parts, fields, bits, sum, Skipped, First};
+ghost use Rattle.std.specs.Prelude.{◌≡◌, ◌+◌, ◌-◌, ◌*◌, ◌%◌, ◌^◌, ◌≤◌, ◌<◌, eqb, length, get_or, set, replicate, true, false};
+ghost use Rattle.bits.specs.Packed.{parts, fields, bits, sum, Skipped, FirstOf};
 
 pub fn field(words: &[u64], i: usize) -> u16
     requires { i < 4 * length words.now }
@@ -21,28 +21,35 @@ pub fn put_field(words: &mut [u64], i: usize, x: u16)
     ensures { fields words.new ≡ set (fields words.old) i x }
 {
     let s = (3 - i % 4) * 16;
-    words[i / 4] = (words[i / 4] & !(65535 << s)) | ((x as u64) << s);
+    words[i / 4] = (words[i / 4] & !(65535 << s)) | (u64::from(x) << s);
+}
+
+// The bit of place n in its word, by weight.
+fn bit_of(n: usize) -> u64
+    ensures { result ≡ 2 ^ (63 - n % 64) }
+{
+    1 << (63 - n % 64)
 }
 
 pub fn is_marked(map: &[u64], n: usize) -> bool
     requires { n < 64 * length map.now }
     ensures { result ≡ eqb (get_or (bits map.now) n 0) 1 }
 {
-    (map[n / 64] >> (63 - n % 64)) % 2 == 1
+    map[n / 64] & bit_of(n) != 0
 }
 
 pub fn mark(map: &mut [u64], n: usize)
     requires { n < 64 * length map.old }
     ensures { bits map.new ≡ set (bits map.old) n 1 }
 {
-    map[n / 64] = map[n / 64] | (1 << (63 - n % 64));
+    map[n / 64] |= bit_of(n);
 }
 
 pub fn clear(map: &mut [u64], n: usize)
     requires { n < 64 * length map.old }
     ensures { bits map.new ≡ set (bits map.old) n 0 }
 {
-    map[n / 64] = map[n / 64] & !(1 << (63 - n % 64));
+    map[n / 64] &= !bit_of(n);
 }
 
 // How many bits are set.
@@ -50,13 +57,7 @@ pub fn count(map: &[u64]) -> usize
     requires { length map.now ≤ 65536 }
     ensures { result ≡ sum (bits map.now) }
 {
-    let mut n: usize = 0;
-    let mut i: usize = 0;
-    while i < map.len() {
-        n += u64::count_ones(map[i]) as usize;
-        i += 1;
-    }
-    n
+    map.iter().map(|word| word.count_ones() as usize).sum()
 }
 
 // Are two maps of one length the same?
@@ -65,14 +66,7 @@ pub fn same(a: &[u64], b: &[u64]) -> bool
     ensures yes { result ≡ true → a.now ≡ b.now }
     ensures no { result ≡ false → bits a.now ≡ bits b.now → ⊥ }
 {
-    let mut i: usize = 0;
-    while i < a.len() {
-        if a[i] != b[i] {
-            return false;
-        }
-        i += 1;
-    }
-    true
+    a == b
 }
 
 // Is no bit of a map set?
@@ -80,50 +74,40 @@ pub fn is_zero(map: &[u64]) -> bool
     ensures yes { result ≡ true → map.now ≡ replicate (length map.now) 0 }
     ensures no { result ≡ false → bits map.now ≡ bits (replicate (length map.now) 0) → ⊥ }
 {
-    let mut i: usize = 0;
-    while i < map.len() {
-        if map[i] != 0 {
-            return false;
-        }
-        i += 1;
-    }
-    true
+    map.iter().all(|word| *word == 0)
 }
 
-// The first set bit of one word at or after bit `from`, or 64.
-fn first_one(w: u64, from: usize) -> usize
+// The first set bit of one word at or after bit `from`.
+fn first_one(w: u64, from: usize) -> Option<usize>
     requires { from < 64 }
-    ensures { First 1 (parts 1 64 w) from result }
+    ensures { FirstOf 1 (parts 1 64 w) from result }
 {
     let x = w << from;
     if x == 0 {
-        return 64;
+        return None;
     }
-    from + u64::leading_zeros(x) as usize
+    Some(from + x.leading_zeros() as usize)
 }
 
-// The lowest clear bit, or the number of bits where all are set.
-pub fn lowest_free(map: &[u64]) -> usize
+// The lowest clear bit.
+pub fn lowest_free(map: &[u64]) -> Option<usize>
     requires { length map.now ≤ 65536 }
-    ensures { First 0 (bits map.now) 0 result }
+    ensures { FirstOf 0 (bits map.now) 0 result }
 {
     lowest_free_from(map, 0)
 }
 
 // The same where all words before `from` are known to be full: who takes one free bit after the other passes each word once.
-pub fn lowest_free_from(map: &[u64], from: usize) -> usize
+pub fn lowest_free_from(map: &[u64], from: usize) -> Option<usize>
     requires map_len_bound { length map.now ≤ 65536 }
     requires from_in_bounds { from ≤ length map.now }
     requires skipped { Skipped 0 (bits map.now) 0 (from * 64) }
-    ensures { First 0 (bits map.now) 0 result }
+    ensures { FirstOf 0 (bits map.now) 0 result }
 {
-    let mut i = from;
-    while i < map.len() {
-        let r = first_one(!map[i], 0);
-        if r < 64 {
-            return i * 64 + r;
+    for i in from..map.len() {
+        if let Some(bit) = first_one(!map[i], 0) {
+            return Some(i * 64 + bit);
         }
-        i += 1;
     }
-    i * 64
+    None
 }

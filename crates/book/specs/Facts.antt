@@ -1,6 +1,6 @@
 -- What the book's users may count on: the empty book holds no rules; memory that passes holds one set of rules within the limits, with exactly
 -- their nodes; two allowed outcomes of a call are the same; and what a call answers depends on the set of rules alone.
-use Rattle.std.specs.Prelude.{◌≡◌, refl, Bool, false, ℕ, zero, suc, ◌+◌, ◌≤◌, ◌<◌, eqb, ltb, length, take, replicate}
+use Rattle.std.specs.Prelude.{◌≡◌, Option, refl, Bool, false, ℕ, zero, suc, ◌+◌, ◌≤◌, ◌<◌, eqb, ltb, length, take, replicate, Ok}
 use Rattle.std.proofs.Common.{sym, ap, ◌∙◌, subst, arith, length-take, get_or-take}
 use Rattle.std.proofs.Math.Path.{fun_ext}
 use mathlib.Core.List.{List, [], map, reverse, append-nil, Memᴰ}
@@ -11,7 +11,6 @@ use Rattle.layout.specs.Layout.{rule_numbers, nodes_limit, rules_limit, last_lin
 use Rattle.bits.specs.Packed.{bits, sum}
 use Rattle.term.specs.Beginnings.{put_if, Begins}
 use Rattle.term.specs.Whole.{whole_alone}
-use Rattle.term.specs.declared.reading.Reading.TheVariants.{Whole}
 use Rattle.shape.specs.Shape.{Used, Up, Passes}
 use Rattle.shape.specs.Rows.{up_same, up_one}
 use Rattle.shape.specs.Tally.{tally}
@@ -19,10 +18,11 @@ use Rattle.shape.specs.Tallies.{listed, tally_le}
 use Rattle.shape.specs.Leaves.{ends, bases, numbered}
 use Rattle.shape.specs.NodeCount.{Numbered}
 use Rattle.links.specs.Limits.{used_low, node_map, nodes_held, empty_words}
-use Rattle.book.specs.Rules.{Rule, nothing, rule, Rules, is_held, no_rules, terms, rule_count, nodes_of}
+use Rattle.book.specs.declared.Shown.{Shown}
+use Rattle.book.specs.Rules.{Rule, nothing, rule, Rules, no_rules, terms, rule_count, nodes_of}
 use Rattle.book.specs.Memory.{view, taken, number, term, rule_at, form_of, leaf, leaves, held_at, Passing, rules_in}
 use Rattle.book.specs.Holding.{hanging, holds_at, number_low, term_size, base_forms, nodes_tally, rules_tally, count_tally}
-use Rattle.book.specs.Promises.{IsTerm, Empties, shown_size, shown_cells, Shows, Counts}
+use Rattle.book.specs.Promises.{IsTerm, Empties, shown, Shows, Counts}
 
 -- ---- the empty book
 
@@ -94,7 +94,7 @@ module _ (ws : List ℕ) (p : Passing ws) where
           let a = holds_at (view ws) k r e in
           let c = p.right.records a.place a.used in
           subst IsTerm (append-nil _ ∙ ap (λ (x : Rule). x.term) a.is) (whole_alone ((view ws).cells a.place) [] ((view ws).size a.place) c.whole
-          ∙ ap Whole (sym (term_size (view ws) low p.right a.place a.used) ∙ ap length (sym (append-nil (term (view ws) a.place)))))
+          ∙ ap Ok (sym (term_size (view ws) low p.right a.place a.used) ∙ ap length (sym (append-nil (term (view ws) a.place)))))
 
   begins : {q : List ℕ} {fs gs : List (List ℕ)} → ((f : List ℕ) → Memᴰ f fs → Memᴰ f gs) → Begins q fs → Begins q gs
   begins h b = record { form = b.form; among = h b.form b.among; rest = b.rest; is = b.is; not_empty = b.not_empty }
@@ -130,13 +130,8 @@ empties_once ws a b r s x y = go (ℕ_discrete (length ws) book_words)
 -- ---- the set of rules alone
 
 module _ (ws vs : List ℕ) (same : rules_in ws ≡ rules_in vs) where
-  pub shows_alike : (k : ℕ) (held held' : Bool) (size size' : ℕ) (cells cells' : List ℕ) → Shows ws k held size cells → Shows vs k held' size' cells'
-      → (held ≡ held') × (size ≡ size') × (cells ≡ cells')
-  shows_alike k held held' size size' cells cells' x y = (
-    x.tells_held ∙ ap (λ (z : Rules). is_held (z k)) same ∙ sym y.tells_held,
-    x.sized ∙ ap (λ (z : Rules). shown_size (z k)) same ∙ sym y.sized,
-    x.shown ∙ ap (λ (z : Rules). shown_cells (z k)) same ∙ sym y.shown,
-  )
+  pub shows_alike : (k : ℕ) (it it' : Option Shown) → Shows ws k it → Shows vs k it' → it ≡ it'
+  shows_alike k it it' x y = x ∙ ap (λ (z : Rules). shown (z k)) same ∙ sym y
 
   pub counts_alike : (rules rules' nodes nodes' : ℕ) → Counts ws rules nodes → Counts vs rules' nodes' → (rules ≡ rules') × (nodes ≡ nodes')
   counts_alike rules rules' nodes nodes' x y = (x.rules_are ∙ ap rule_count same ∙ sym y.rules_are, x.nodes_are ∙ ap nodes_of same ∙ sym y.nodes_are)

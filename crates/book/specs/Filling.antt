@@ -1,24 +1,20 @@
 -- A list that is written place by place, from the first on, is in the end what was to be written.
-use Rattle.std.specs.Prelude.{◌≡◌, refl, List, [], ◌∷◌, ◌++◌, map, ℕ, zero, suc, ◌+◌, ◌-◌, ◌*◌, ◌/◌, ◌%◌, ◌≤◌, ◌<◌, length, get_or, set, take, replicate}
-use Rattle.std.proofs.Common.{sym, ap, ◌∙◌, arith, length-set, length-append, length-take, ext_get_or, get_or-set_same, get_or-set_other, get_or-append-add, get_or-take}
+use Rattle.std.specs.Prelude.{◌≡◌, refl, List, ◌++◌, ℕ, zero, suc, ◌+◌, ◌-◌, ◌*◌, ◌/◌, ◌%◌, ◌≤◌, ◌<◌, length, get_or, set, replicate}
+use Rattle.std.proofs.Common.{sym, ap, ◌∙◌, arith, length-set, length-append, ext_get_or, get_or-set_same, get_or-set_other, get_or-append-add}
 use Rattle.std.proofs.Math.Decide.{ℕ_discrete, dec_lt}
-use Rattle.std.proofs.lemmas.List.{length-replicate, length-map}
+use Rattle.std.proofs.lemmas.List.{length-replicate}
+use Rattle.std.proofs.lemmas.List.Edits.{fill_by_more}
 use Rattle.std.proofs.Math.ListN.{get_or-append, get_or-eq_default}
 use Rattle.layout.specs.Layout.{term_words}
 use Rattle.bits.specs.Packed.{parts, fields}
 use Rattle.bits.specs.Laws.{length_unpack, parts_zero, at_word}
-use Rattle.book.specs.Memory.{blank_number, form_of}
 
 -- the places below i have what g says
 abbrev pub Filled : List ℕ → ℕ → (ℕ → ℕ) → Type 0
 Filled l i g = (k : ℕ) → k < i → get_or l k 0 ≡ g k
 
-pub filled_more : (l l' : List ℕ) (i x : ℕ) (g : ℕ → ℕ) → i < length l → l' ≡ set l i x → x ≡ g i → Filled l i g → Filled l' (i + 1) g
-filled_more l l' i x g h s e f k b = ap (λ (z : List ℕ). get_or z k 0) s ∙ go (ℕ_discrete k i)
-  where
-    go : Dec (k ≡ i) → get_or (set l i x) k 0 ≡ g k
-    go (yes q) = ap (λ (z : ℕ). get_or (set l i x) z 0) q ∙ get_or-set_same l i x 0 h ∙ e ∙ ap g (sym q)
-    go (no q) = get_or-set_other l i k x 0 q ∙ f k (omega arith)
+pub filled_more : (l : List ℕ) (i x : ℕ) (g : ℕ → ℕ) → i < length l → x ≡ g i → Filled l i g → Filled (set l i x) (i + 1) g
+filled_more l i x g h e f k b = ap (λ (z : ℕ). get_or (set l i z) k 0) e ∙ fill_by_more g l i 0 h f k b
 
 pub filled_all : (l t : List ℕ) (i : ℕ) (g : ℕ → ℕ) → length l ≡ length t → length l ≤ i → ((k : ℕ) → k < length l → g k ≡ get_or t k 0) → Filled l i g → l ≡ t
 filled_all l t i g e h same f = ext_get_or 0 l t e (λ k b. f k (omega arith) ∙ same k b)
@@ -98,37 +94,6 @@ padded t n k = go (dec_lt k (length t))
 pub padded_long : (t : List ℕ) → length t ≤ 32 → length (t ++ replicate (32 - length t) 0) ≡ 32
 padded_long t h = length-append t (replicate (32 - length t) 0) ∙ omega (arith, length-replicate {A = ℕ} (32 - length t) 0)
 
--- blank cells, and then one number
-get_map : (f : ℕ → ℕ) (t : List ℕ) (k : ℕ) → k < length t → get_or (map f t) k 0 ≡ f (get_or t k 0)
-get_map f [] k h = absurd (omega arith)
-get_map f (c ∷ t) zero h = refl
-get_map f (c ∷ t) (suc k) h = get_map f t k (omega arith)
-
-pub rowed : (cells row : List ℕ) (size n : ℕ) → size ≤ length cells → length row ≡ 33 → size ≤ 32
-    → Filled row size (λ k. blank_number (get_or cells k 0)) → ((k : ℕ) → size ≤ k → k < 33 → get_or row k 0 ≡ n)
-    → take (size + 1) row ≡ form_of (take size cells) ++ (n ∷ [])
-rowed cells row size n h e s f g = ext_get_or 0 (take (size + 1) row) (form_of (take size cells) ++ (n ∷ [])) long
-    (λ k b. get_or-take (size + 1) row k 0 (below k b) ∙ go k b (dec_lt k size))
-  where
-    form_long : length (form_of (take size cells)) ≡ size
-    form_long = length-map (take size cells) blank_number ∙ omega (arith, length-take size cells)
-
-    long : length (take (size + 1) row) ≡ length (form_of (take size cells) ++ (n ∷ []))
-    long = omega (arith, length-take (size + 1) row, length-append (form_of (take size cells)) (n ∷ []), form_long)
-
-    below : (k : ℕ) → k < length (take (size + 1) row) → k < size + 1
-    below k b = omega (arith, length-take (size + 1) row)
-
-    go : (k : ℕ) → k < length (take (size + 1) row) → Dec (k < size) → get_or row k 0 ≡ get_or (form_of (take size cells) ++ (n ∷ [])) k 0
-    go k b (yes l) =
-        f k l ∙ ap blank_number (sym (get_or-take size cells k 0 l)) ∙ sym (get_map blank_number (take size cells) k (omega (arith, length-take size cells)))
-        ∙ sym (get_or-append (form_of (take size cells)) (n ∷ []) 0 k (omega (arith, form_long)))
-    go k b (no l) =
-        let q : k ≡ size = let z = below k b in omega arith in
-        let w : k ≡ length (form_of (take size cells)) + 0 = omega (arith, form_long) in
-        g k (omega arith) (let z = below k b in omega arith)
-        ∙ sym (ap (λ (z : ℕ). get_or (form_of (take size cells) ++ (n ∷ [])) z 0) w ∙ get_or-append-add (form_of (take size cells)) (n ∷ []) 0 0)
-
 -- ---- four cells at a time, and zeros behind them
 
 pub record Loading (ws cells : List ℕ) (i : ℕ) : Type 0 where
@@ -165,18 +130,18 @@ loading_more ws cells i a b c d f h ea eb ec ed = record {
     inside l k e b = let n = f.long in omega arith
 
     one : Filled (set cells i a) (i + 1) (λ k. get_or (fields ws) k 0)
-    one = filled_more cells _ i a (λ k. get_or (fields ws) k 0) (inside cells i refl (omega arith)) refl ea f.filled
+    one = filled_more cells i a (λ k. get_or (fields ws) k 0) (inside cells i refl (omega arith)) ea f.filled
 
     two : Filled (set (set cells i a) (i + 1) b) (i + 1 + 1) (λ k. get_or (fields ws) k 0)
-    two = filled_more (set cells i a) _ (i + 1) b (λ k. get_or (fields ws) k 0) (inside (set cells i a) (i + 1) (simp length-set) (omega arith)) refl eb one
+    two = filled_more (set cells i a) (i + 1) b (λ k. get_or (fields ws) k 0) (inside (set cells i a) (i + 1) (simp length-set) (omega arith)) eb one
 
     three : Filled (set (set (set cells i a) (i + 1) b) (i + 2) c) (i + 2 + 1) (λ k. get_or (fields ws) k 0)
-    three = filled_more (set (set cells i a) (i + 1) b) _ (i + 2) c (λ k. get_or (fields ws) k 0)
-        (inside (set (set cells i a) (i + 1) b) (i + 2) (simp length-set) (omega arith)) refl ec (λ k l. two k (omega arith))
+    three = filled_more (set (set cells i a) (i + 1) b) (i + 2) c (λ k. get_or (fields ws) k 0)
+        (inside (set (set cells i a) (i + 1) b) (i + 2) (simp length-set) (omega arith)) ec (λ k l. two k (omega arith))
 
     four : Filled (set (set (set (set cells i a) (i + 1) b) (i + 2) c) (i + 3) d) (i + 3 + 1) (λ k. get_or (fields ws) k 0)
-    four = filled_more (set (set (set cells i a) (i + 1) b) (i + 2) c) _ (i + 3) d (λ k. get_or (fields ws) k 0)
-        (inside (set (set (set cells i a) (i + 1) b) (i + 2) c) (i + 3) (simp length-set) (omega arith)) refl ed (λ k l. three k (omega arith))
+    four = filled_more (set (set (set cells i a) (i + 1) b) (i + 2) c) (i + 3) d (λ k. get_or (fields ws) k 0)
+        (inside (set (set (set cells i a) (i + 1) b) (i + 2) c) (i + 3) (simp length-set) (omega arith)) ed (λ k l. three k (omega arith))
 
 pub loaded : (ws cells : List ℕ) (i size : ℕ) → length ws ≡ term_words → Zeros (fields ws) size → size ≤ i → Loading ws cells i → cells ≡ fields ws
 loaded ws cells i size e z h f = ext_get_or 0 cells (fields ws) (let n = f.long in omega (arith, fields_long ws)) (λ k b. go k (dec_lt k i))

@@ -1,16 +1,16 @@
 -- What the code reads of memory is what the view says.
 use Rattle.std.specs.Prelude.{◌≡◌, refl, List, Bool, true, false, ℕ, suc, ◌+◌, ◌≤◌, ◌<◌, eqb, ltb, length, get_or, take, drop}
-use Rattle.std.proofs.Common.{sym, ap, ap₂, ◌∙◌, subst, arith, lt-ltb, le-ltb, eq-eqb, ne_eqb, length-take, length-drop, ext_get_or, get_or-take, get_or-drop}
-use Rattle.deciding.specs.Deciding.{pick, both}
+use Rattle.std.proofs.Common.{sym, ap, ap₂, ◌∙◌, subst, arith, lt-ltb, le-ltb, length-take, length-drop, ext_get_or, get_or-take, get_or-drop}
+use Rattle.deciding.specs.Deciding.{both}
 use Rattle.layout.specs.Layout.{node_map_words, rule_map_words, nodes_limit, rules_limit, rule_map_at, links_at, rules_at, last_link, tree_words, book_words}
 use Rattle.bits.specs.Packed.{bits, sum}
 use Rattle.links.specs.Words.{cell_of}
 use Rattle.shape.specs.Tally.{marked}
 use Rattle.links.specs.Limits.{rule_bit, nodes_held, rules_held, used_low}
 use Rattle.shape.specs.Shape.{Used}
-use Rattle.book.specs.Memory.{view, taken, number, Passing, rules_in}
+use Rattle.book.specs.Memory.{view, taken, number, held_at, Passing, rules_in}
 use Rattle.book.specs.Holding.{rules_tally, nodes_tally, count_tally}
-use Rattle.book.specs.Promises.{place_of, Counts}
+use Rattle.book.specs.Promises.{Counts}
 
 -- a window inside the tree's words
 pub inside : (ws : List ℕ) (b n : ℕ) → b + n ≤ tree_words → take n (drop b (take tree_words ws)) ≡ take n (drop b ws)
@@ -48,39 +48,29 @@ tree_long ws size = omega (arith, length-take tree_words ws)
 pub nodes_low : (ws : List ℕ) → length ws ≡ book_words → (n : ℕ) → Used (view ws).tree n → n < last_link
 nodes_low ws size n u = used_low (take tree_words ws) (tree_long ws size) n u
 
--- a number is held where its place is taken by a rule of that number
-module _ (ws : List ℕ) (k : ℕ) where
-  place : ℕ
-  place = (view ws).place k
+-- a number is held where its place is taken by a rule of that number: the three tests, each as it is read
+module _ (ws : List ℕ) (k r : ℕ) (e : r ≡ (view ws).place k) where
+  held_is : (a b c : Bool) → ltb ((view ws).place k) rules_limit ≡ a → taken (view ws) ((view ws).place k) ≡ b → eqb (number (view ws) ((view ws).place k)) k ≡ c
+      → both a (both b c) ≡ held_at (view ws) k
+  held_is a b c f g h = sym (ap₂ both f (ap₂ both g h))
 
-  picks : (a b c : Bool) → ltb ((view ws).place k) rules_limit ≡ a → taken (view ws) ((view ws).place k) ≡ b → eqb (number (view ws) ((view ws).place k)) k ≡ c
-      → place_of (view ws) k ≡ pick (both a (both b c)) ((view ws).place k) rules_limit
-  picks a b c e f g = ap (λ (x : Bool). pick x ((view ws).place k) rules_limit) (ap₂ both e (ap₂ both f g))
+  pub too_high : rules_limit ≤ r → false ≡ held_at (view ws) k
+  too_high h = held_is false (taken (view ws) ((view ws).place k)) (eqb (number (view ws) ((view ws).place k)) k)
+      (le-ltb ((view ws).place k) rules_limit (subst (λ (z : ℕ). rules_limit ≤ z) e h)) refl refl
 
-  pub too_high : (r : ℕ) → r ≡ (view ws).place k → rules_limit ≤ r → rules_limit ≡ place_of (view ws) k
-  too_high r e h = sym (picks false (taken (view ws) ((view ws).place k)) (eqb (number (view ws) ((view ws).place k)) k)
-      (le-ltb ((view ws).place k) rules_limit (subst (λ (z : ℕ). rules_limit ≤ z) e h)) refl refl)
-
-  module _ (r : ℕ) (e : r ≡ (view ws).place k) (h : r < rules_limit) where
+  module _ (h : r < rules_limit) (b : Bool) (f : b ≡ eqb (get_or (bits (take rule_map_words (drop rule_map_at ws))) r 0) 1) where
     low : ltb ((view ws).place k) rules_limit ≡ true
     low = lt-ltb ((view ws).place k) rules_limit (subst (λ (z : ℕ). z < rules_limit) e h)
 
-    is_taken : (b : Bool) → b ≡ eqb (get_or (bits (take rule_map_words (drop rule_map_at ws))) r 0) 1 → taken (view ws) ((view ws).place k) ≡ b
-    is_taken b f = ap (taken (view ws)) (sym e) ∙ sym (rule_taken ws r h) ∙ sym f
+    is_taken : taken (view ws) ((view ws).place k) ≡ b
+    is_taken = ap (taken (view ws)) (sym e) ∙ sym (rule_taken ws r h) ∙ sym f
 
-    is_number : (c : ℕ) → c ≡ cell_of (get_or ws (rules_at + r) 0) → number (view ws) ((view ws).place k) ≡ c
-    is_number c g = ap (number (view ws)) (sym e) ∙ sym (rule_number ws r h) ∙ sym g
+    pub not_taken : b ≡ false → false ≡ held_at (view ws) k
+    not_taken q = held_is true false (eqb (number (view ws) ((view ws).place k)) k) low (is_taken ∙ q) refl
 
-    pub not_taken : (b : Bool) → b ≡ eqb (get_or (bits (take rule_map_words (drop rule_map_at ws))) r 0) 1 → b ≡ false → rules_limit ≡ place_of (view ws) k
-    not_taken b f q = sym (picks true false (eqb (number (view ws) ((view ws).place k)) k) low (is_taken b f ∙ q) refl)
-
-    pub other_number : (b : Bool) → b ≡ eqb (get_or (bits (take rule_map_words (drop rule_map_at ws))) r 0) 1 → b ≡ true
-        → (c : ℕ) → c ≡ cell_of (get_or ws (rules_at + r) 0) → ¬ (c ≡ k) → rules_limit ≡ place_of (view ws) k
-    other_number b f q c g n = sym (picks true true false low (is_taken b f ∙ q) (ne_eqb (number (view ws) ((view ws).place k)) k (λ d. n (sym (is_number c g) ∙ d))))
-
-    pub found : (b : Bool) → b ≡ eqb (get_or (bits (take rule_map_words (drop rule_map_at ws))) r 0) 1 → b ≡ true → (c : ℕ)
-        → c ≡ cell_of (get_or ws (rules_at + r) 0) → c ≡ k → r ≡ place_of (view ws) k
-    found b f q c g n = e ∙ sym (picks true true true low (is_taken b f ∙ q) (eq-eqb (number (view ws) ((view ws).place k)) k (is_number c g ∙ n)))
+    pub same_number : b ≡ true → (c n : ℕ) → c ≡ cell_of (get_or ws (rules_at + r) 0) → n ≡ k → eqb c n ≡ held_at (view ws) k
+    same_number q c n g s = held_is true true (eqb c n) low (is_taken ∙ q)
+        (ap₂ eqb (ap (number (view ws)) (sym e) ∙ sym (rule_number ws r h) ∙ sym g) (sym s))
 
 -- the two counts
 pub counted : (ws : List ℕ) (rules nodes : ℕ) → Passing ws → nodes ≡ sum (bits (take node_map_words ws))

@@ -1,11 +1,10 @@
 -- What lent memory holds, and when it passes: docs/BOOK.md, 'The check', line by line.
-use Rattle.std.specs.Prelude.{◌≡◌, List, map, Bool, true, ℕ, ◌+◌, ◌*◌, ◌≤◌, ◌<◌, eqb, ltb, length, get_or, take, drop}
+use Rattle.std.specs.Prelude.{◌≡◌, List, map, Bool, true, ℕ, ◌+◌, ◌*◌, ◌≤◌, ◌<◌, eqb, ltb, length, get_or, take, drop, Ok}
 use Rattle.deciding.specs.Deciding.{pick, both}
 use Rattle.layout.specs.Layout.{rule_numbers, nodes_limit, rules_limit, tree_words, places_at, place_words, term_words, record_words, records_at, terms_at, book_words}
 use Rattle.bits.specs.Packed.{fields}
 use Rattle.term.specs.Cells.{blank_of, number_of}
 use Rattle.term.specs.Reading.{read_term}
-use Rattle.term.specs.declared.reading.Reading.TheVariants.{Whole}
 use Rattle.shape.specs.Shape.{Shape, Passes}
 use Rattle.links.specs.Words.{shape}
 use Rattle.shape.specs.Tallies.{listed}
@@ -71,7 +70,7 @@ module _ (v : View) where
   pub record Recorded (r : ℕ) : Type 0 where
     pub low : number r < rule_numbers
     pub found : v.place (number r) ≡ r
-    pub whole : read_term (v.cells r) ≡ Whole (v.size r)
+    pub whole : read_term (v.cells r) ≡ Ok (v.size r)
     pub clean : (i : ℕ) → v.size r ≤ i → get_or (v.cells r) i 0 ≡ 0
 
   -- Each place that is taken has a record that is right, and the tree is exactly that of these rules.

@@ -1,15 +1,17 @@
 -- Where a number's record is, and what it shows.
-use Rattle.std.specs.Prelude.{◌≡◌, refl, List, ◌++◌, Bool, true, false, ℕ, ◌+◌, ◌-◌, ◌*◌, ◌≤◌, ◌<◌, eqb, ltb, length, get_or, take, drop, replicate}
+use Rattle.std.specs.Prelude.{◌≡◌, refl, Some, None, List, ◌++◌, Bool, true, false, ℕ, ◌+◌, ◌-◌, ◌*◌, ◌≤◌, ◌<◌, eqb, ltb, length, get_or, take, drop, replicate}
 use Rattle.std.proofs.Common.{sym, ap, ap₂, ◌∙◌, subst, arith, ltb-true, eqb-true, length-take, length-drop, length-append, ext_get_or, get_or-take, get_or-append-add}
 use Rattle.std.proofs.Math.Decide.{dec_lt}
 use Rattle.std.proofs.lemmas.List.{length-replicate}
+use Rattle.std.proofs.lemmas.Option.{none-some, same_Some}
 use Rattle.std.proofs.Math.ListN.{get_or-append}
+use Rattle.std.specs.Bool.{then_some}
 use Rattle.deciding.specs.Deciding.{pick, both, of_both}
 use Rattle.layout.specs.Layout.{rules_limit, term_words, record_words, terms_at}
-use Rattle.book.specs.Rules.{nothing, rule, is_held}
+use Rattle.book.specs.Rules.{nothing, rule}
 use Rattle.book.specs.Memory.{View, view, taken, number, term, rule_at, held_at, Passing, rules_in}
 use Rattle.book.specs.Holding.{term_stands_at, term_size}
-use Rattle.book.specs.Promises.{Shows, shown_size, shown_cells, place_of}
+use Rattle.book.specs.Promises.{Shows, shown, place_of}
 use Rattle.book.specs.Filling.{Zeros, fields_long, zeros_are}
 use Rattle.book.specs.Looking.{nodes_low}
 
@@ -20,32 +22,34 @@ pub record Placed (ws : List ℕ) (k r : ℕ) : Type 0 where
   pub has : number (view ws) r ≡ k
   pub rule_is : rules_in ws k ≡ rule (rule_at (view ws) r)
 
-module _ (ws : List ℕ) (k r : ℕ) (e : r ≡ place_of (view ws) k) where
-  pub not_placed : r ≡ rules_limit → rules_in ws k ≡ nothing
-  not_placed h = go (held_at (view ws) k) refl
-    where
-      go : (b : Bool) → held_at (view ws) k ≡ b → rules_in ws k ≡ nothing
-      go false q = ap (λ (b : Bool). pick b (rule (rule_at (view ws) ((view ws).place k))) nothing) q
-      go true q =
-          let p : r ≡ (view ws).place k = e ∙ ap (λ (b : Bool). pick b ((view ws).place k) rules_limit) q in
-          let l = ltb-true ((view ws).place k) rules_limit (of_both (ltb ((view ws).place k) rules_limit) _ q).0 in
-          absurd (omega (arith, p, l, h))
+none_then : (b : Bool) (x : ℕ) → then_some b x ≡ None → b ≡ false
+none_then false x e = refl
+none_then true x e = absurd (none-some x (sym e))
 
-  pub placed : ¬ (r ≡ rules_limit) → Placed ws k r
-  placed n = go (held_at (view ws) k) refl
+some_then : (b : Bool) (x y : ℕ) → then_some b x ≡ Some y → (b ≡ true) × (x ≡ y)
+some_then true x y e = (refl, same_Some x y e)
+some_then false x y e = absurd (none-some y e)
+
+module _ (ws : List ℕ) (k : ℕ) where
+  pub not_placed : place_of (view ws) k ≡ None → rules_in ws k ≡ nothing
+  not_placed e = ap (λ (b : Bool). pick b (rule (rule_at (view ws) ((view ws).place k))) nothing) (none_then (held_at (view ws) k) ((view ws).place k) e)
+
+  pub placed : (r : ℕ) → place_of (view ws) k ≡ Some r → Placed ws k r
+  placed r e = record {
+    low = subst (λ (z : ℕ). z < rules_limit) h.1 (ltb-true ((view ws).place k) rules_limit a.0);
+    used = subst (λ (z : ℕ). taken (view ws) z ≡ true) h.1 b.0;
+    has = subst (λ (z : ℕ). number (view ws) z ≡ k) h.1 (eqb-true (number (view ws) ((view ws).place k)) k b.1);
+    rule_is = ap₂ (λ (x : Bool) (z : ℕ). pick x (rule (rule_at (view ws) z)) nothing) h.0 h.1;
+  }
     where
-      go : (b : Bool) → held_at (view ws) k ≡ b → Placed ws k r
-      go false q = absurd (n (e ∙ ap (λ (b : Bool). pick b ((view ws).place k) rules_limit) q))
-      go true q =
-          let p : (view ws).place k ≡ r = sym (e ∙ ap (λ (b : Bool). pick b ((view ws).place k) rules_limit) q) in
-          let a = of_both (ltb ((view ws).place k) rules_limit) (both (taken (view ws) ((view ws).place k)) (eqb (number (view ws) ((view ws).place k)) k)) q in
-          let b = of_both (taken (view ws) ((view ws).place k)) (eqb (number (view ws) ((view ws).place k)) k) a.1 in
-          record {
-            low = subst (λ (z : ℕ). z < rules_limit) p (ltb-true ((view ws).place k) rules_limit a.0);
-            used = subst (λ (z : ℕ). taken (view ws) z ≡ true) p b.0;
-            has = subst (λ (z : ℕ). number (view ws) z ≡ k) p (eqb-true (number (view ws) ((view ws).place k)) k b.1);
-            rule_is = ap₂ (λ (x : Bool) (z : ℕ). pick x (rule (rule_at (view ws) z)) nothing) q p;
-          }
+      h : (held_at (view ws) k ≡ true) × ((view ws).place k ≡ r)
+      h = some_then (held_at (view ws) k) ((view ws).place k) r e
+
+      a : (ltb ((view ws).place k) rules_limit ≡ true) × (both (taken (view ws) ((view ws).place k)) (eqb (number (view ws) ((view ws).place k)) k) ≡ true)
+      a = of_both (ltb ((view ws).place k) rules_limit) (both (taken (view ws) ((view ws).place k)) (eqb (number (view ws) ((view ws).place k)) k)) h.0
+
+      b : (taken (view ws) ((view ws).place k) ≡ true) × (eqb (number (view ws) ((view ws).place k)) k ≡ true)
+      b = of_both (taken (view ws) ((view ws).place k)) (eqb (number (view ws) ((view ws).place k)) k) a.1
 
 -- Its record has at most 32 cells, and zeros behind the term.
 module _ (ws : List ℕ) (k r : ℕ) (p : Passing ws) (at : Placed ws k r) where
@@ -57,16 +61,13 @@ module _ (ws : List ℕ) (k r : ℕ) (p : Passing ws) (at : Placed ws k r) where
 
 -- ---- showing
 
-pub shows_nothing : (ws : List ℕ) (k : ℕ) → rules_in ws k ≡ nothing → Shows ws k false 0 (replicate 32 0)
-shows_nothing ws k e = record { tells_held = sym (ap is_held e); sized = sym (ap shown_size e); shown = sym (ap shown_cells e) }
+pub shows_nothing : (ws : List ℕ) (k : ℕ) → rules_in ws k ≡ nothing → Shows ws k None
+shows_nothing ws k e = sym (ap shown e)
 
 pub shows_rule : (ws : List ℕ) (k r size : ℕ) (cells : List ℕ) → Passing ws → Placed ws k r → size ≡ (view ws).size r → cells ≡ (view ws).cells r
-    → Shows ws k true size cells
-shows_rule ws k r size cells p at es ec = record {
-  tells_held = sym (ap is_held at.rule_is);
-  sized = es ∙ sym (ap shown_size at.rule_is ∙ long);
-  shown = ec ∙ whole ∙ sym (ap shown_cells at.rule_is);
-}
+    → Shows ws k (Some (record { size = size; cells = cells }))
+shows_rule ws k r size cells p at es ec =
+    ap₂ (λ (n : ℕ) (l : List ℕ). Some (record { size = n; cells = l })) (es ∙ sym long) (ec ∙ whole) ∙ sym (ap shown at.rule_is)
   where
     v : View
     v = view ws

@@ -1,12 +1,11 @@
 -- The rules that a book holds, and what is counted of them: Reference 5, and refusals 6 to 9.
-use Rattle.std.specs.Prelude.{List, [], ◌∷◌, ◌++◌, Bool, true, false, ℕ, zero, suc, eqb, leb, ltb, length}
+use Rattle.std.specs.Prelude.{Result, Ok, Err, List, [], ◌∷◌, ◌++◌, Bool, true, false, ℕ, zero, suc, eqb, leb, ltb, length}
 use Rattle.deciding.specs.Deciding.{pick}
 use Rattle.layout.specs.Layout.{rule_numbers, nodes_limit, rules_limit}
 use Rattle.term.specs.Beginnings.{node_count}
-pub use Rattle.book.specs.declared.Added.{Added}
-pub use Rattle.book.specs.declared.Added.TheVariants.{Taken, HeldAlready, BookFull, NoNodes}
-pub use Rattle.book.specs.declared.Removed.{Removed}
-pub use Rattle.book.specs.declared.Removed.TheVariants.{Gone, NotHeld}
+pub use Rattle.book.specs.declared.NotAdded.{NotAdded}
+pub use Rattle.book.specs.declared.NotAdded.TheVariants.{HeldAlready, BookFull, NoNodes}
+pub use Rattle.book.specs.declared.NotHeld.{NotHeld}
 
 -- A rule: its term, variables kept. What more a rule has is a field more.
 pub record Rule : Type 0 where
@@ -59,31 +58,35 @@ abbrev pub nodes_of : Rules → ℕ
 nodes_of rules = node_count (terms rules)
 
 -- The refusal number of each answer to an add.
-abbrev pub refusal_of_add : Added → ℕ
-refusal_of_add Taken = 0
-refusal_of_add HeldAlready = 6
-refusal_of_add BookFull = 8
-refusal_of_add NoNodes = 9
+abbrev pub refusal_of_not_added : NotAdded → ℕ
+refusal_of_not_added HeldAlready = 6
+refusal_of_not_added BookFull = 8
+refusal_of_not_added NoNodes = 9
+
+abbrev pub refusal_of_add : Result (Unit {0}) NotAdded → ℕ
+refusal_of_add (Ok x) = 0
+refusal_of_add (Err why) = refusal_of_not_added why
 
 -- An add is judged in the order 6, 8, 9: number already held; 512 rules held; node count with the rule above 4,096.
-abbrev pub judged : Rules → ℕ → Rule → Added
+abbrev pub judged : Rules → ℕ → Rule → Result (Unit {0}) NotAdded
 judged rules k r =
-    pick (is_held (rules k)) HeldAlready
-    (pick (leb rules_limit (rule_count rules)) BookFull
-    (pick (ltb nodes_limit (nodes_of (with_rule rules k r))) NoNodes Taken))
+    pick (is_held (rules k)) (Err HeldAlready)
+    (pick (leb rules_limit (rule_count rules)) (Err BookFull)
+    (pick (ltb nodes_limit (nodes_of (with_rule rules k r))) (Err NoNodes) (Ok tt)))
 
 -- The rules after an add.
-abbrev pub after : Added → Rules → ℕ → Rule → Rules
-after Taken rules k r = with_rule rules k r
-after HeldAlready rules k r = rules
-after BookFull rules k r = rules
-after NoNodes rules k r = rules
+abbrev pub after : Result (Unit {0}) NotAdded → Rules → ℕ → Rule → Rules
+after (Ok x) rules k r = with_rule rules k r
+after (Err why) rules k r = rules
 
 -- A remove of what stands under a number, and the refusal number of its answer.
-abbrev pub removal : Held → Removed
-removal nothing = NotHeld
-removal (rule r) = Gone
+abbrev pub removal : Held → Result (Unit {0}) NotHeld
+removal nothing = Err (record {})
+removal (rule r) = Ok tt
 
-abbrev pub refusal_of_remove : Removed → ℕ
-refusal_of_remove Gone = 0
-refusal_of_remove NotHeld = 7
+abbrev pub refusal_of_not_held : NotHeld → ℕ
+refusal_of_not_held why = 7
+
+abbrev pub refusal_of_remove : Result (Unit {0}) NotHeld → ℕ
+refusal_of_remove (Ok x) = 0
+refusal_of_remove (Err why) = refusal_of_not_held why

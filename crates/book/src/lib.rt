@@ -2,7 +2,7 @@
 //
 //   the tree       the maps, the root and the nodes, and behind them the rules, which hang below the last nodes of their forms
 //                  (crate `tree`)
-//   the signs      hints for the search, four to a word (`tree::signs`)
+//   the signs      hints for the search, four to a word (`links::signs`)
 //   the places     for each rule number the place of its record, four to a word
 //   the records    at each place the length of the term, and 8 words with its 32 cells
 //
@@ -12,38 +12,96 @@
 
 pub mod record;
 
-ghost use Rattle.std.specs.Prelude.{◌≡◌, ◌<◌, length};
-ghost use Rattle.layout.specs.Layout.{rule_numbers, book_words};
+ghost use Rattle.std.specs.Prelude.{◌≡◌, ◌<◌, length, IfSome};
+ghost use Rattle.layout.specs.Layout.{rule_numbers, rules_limit, book_words};
+ghost use Rattle.book.specs.Rules.{refusal_of_not_added, refusal_of_not_held};
 ghost use Rattle.book.specs.Memory.{Passing, view};
-ghost use Rattle.book.specs.Promises.{Empties, Shows, Counts, place_of};
+ghost use Rattle.book.specs.Promises.{Empties, refusal_of_empty, refusal_of_wrong_length, Shows, Counts, place_of};
 
-// What an add answers: the rule is taken; its number is held already (6); 512 rules are held (8); there would be more
-// than 4,096 nodes (9).
-#[derive(Drop)]
-pub enum Added {
-    Taken,
+use std::error::Error;
+use std::fmt;
+
+// Why a rule is not added: its number is held already; 512 rules are held; there would be more than 4,096 nodes.
+#[derive(Clone, Copy, Debug, PartialEq, Eq)]
+pub enum NotAdded {
     HeldAlready,
     BookFull,
     NoNodes,
 }
 
-// What a remove answers: the rule is gone; its number was not held (7).
-#[derive(Drop)]
-pub enum Removed {
-    Gone,
-    NotHeld,
+impl From<NotAdded> for u64 {
+    ghost from_gives = { λ why refusal. refusal ≡ refusal_of_not_added why };
+
+    fn from(why: NotAdded) -> u64 {
+        match why {
+            NotAdded::HeldAlready => 6,
+            NotAdded::BookFull => 8,
+            NotAdded::NoNodes => 9,
+        }
+    }
 }
 
-// A rule as it is shown: is there one, the length of its term, and its cells, zeros past the term.
-#[derive(Drop)]
+impl fmt::Display for NotAdded {
+    fn fmt<W: fmt::Write>(&self, f: &mut fmt::Formatter<W>) -> fmt::Result {
+        f.write_str(match self {
+            NotAdded::HeldAlready => "the number is held already",
+            NotAdded::BookFull => "the book is full",
+            NotAdded::NoNodes => "there are not enough nodes",
+        })
+    }
+}
+
+impl Error for NotAdded {}
+
+// Why a rule is not removed: its number is not held.
+#[derive(Clone, Copy, Debug, PartialEq, Eq)]
+pub struct NotHeld;
+
+impl From<NotHeld> for u64 {
+    ghost from_gives = { λ why refusal. refusal ≡ refusal_of_not_held why };
+
+    fn from(_why: NotHeld) -> u64 {
+        7
+    }
+}
+
+impl fmt::Display for NotHeld {
+    fn fmt<W: fmt::Write>(&self, f: &mut fmt::Formatter<W>) -> fmt::Result {
+        f.write_str("the number is not held")
+    }
+}
+
+impl Error for NotHeld {}
+
+// Memory that is not as long as a book.
+#[derive(Clone, Copy, Debug, PartialEq, Eq)]
+pub struct WrongLength;
+
+impl From<WrongLength> for u64 {
+    ghost from_gives = { λ why refusal. refusal ≡ refusal_of_wrong_length why };
+
+    fn from(_why: WrongLength) -> u64 {
+        1
+    }
+}
+
+impl fmt::Display for WrongLength {
+    fn fmt<W: fmt::Write>(&self, f: &mut fmt::Formatter<W>) -> fmt::Result {
+        f.write_str("the memory is not as long as a book")
+    }
+}
+
+impl Error for WrongLength {}
+
+// A rule as it is shown: the length of its term, and its cells, zeros past the term: of one length, since there is no heap.
+#[derive(Clone, Copy, Debug, PartialEq, Eq)]
 pub struct Shown {
-    pub held: bool,
     pub size: usize,
     pub cells: [u16; 32],
 }
 
 // Rules held and node count.
-#[derive(Drop)]
+#[derive(Clone, Copy, Debug, PartialEq, Eq)]
 pub struct Counted {
     pub rules: usize,
     pub nodes: usize,
@@ -51,7 +109,7 @@ pub struct Counted {
 
 // The book's numbers and how an empty one is made. The memory is lent by each caller, so there is nothing to hold here.
 #[derive(Drop)]
-pub struct Book {}
+pub struct Book;
 
 impl Book {
     // The fixed length of a book's memory, in words.
@@ -63,74 +121,48 @@ impl Book {
     // The mark of a blank.
     pub const MARK: u16 = term::MARK;
 
-    // An empty book: 0, or 1 on a wrong length.
-    pub fn empty(m: &mut [u64]) -> u64
-        ensures { Empties m.old m.new result }
+    // An empty book.
+    pub fn empty(m: &mut [u64]) -> Result<(), WrongLength>
+        ensures { Empties m.old m.new (refusal_of_empty result) }
     {
         if m.len() != Book::WORDS {
-            return 1;
+            return Err(WrongLength);
         }
-        let mut i: usize = 0;
-        while i < m.len() {
-            m[i] = 0;
-            i += 1;
-        }
-        0
+        m.fill(0);
+        Ok(())
     }
 }
 
-pub fn wide(x: u16) -> u64
-    ensures { result ≡ x }
-{
-    x as u64
-}
-
-pub fn size_of(x: u16) -> usize
-    ensures { result ≡ x }
-{
-    x as usize
-}
-
-// The place of a number's record, or 512 where the number is not held.
-pub fn place_of(m: &[u64], number: u16) -> usize
+// The place of a number's record, where the number is held. That memory is as long as a book stands in contracts, here and in the crates
+// above, since docs/CONTRACTS.md names the functions that are lent it as words.
+pub fn place_of(m: &[u64], number: u16) -> Option<usize>
     requires { (length m.now ≡ book_words) × (number < rule_numbers) }
-    ensures { result ≡ place_of (view m.now) number }
+    ensures place { result ≡ place_of (view m.now) number }
+    ensures low { IfSome result (λ r. r < rules_limit) }
 {
-    let r = size_of(bits::field(&m[layout::PLACES_AT..layout::PLACES_END], size_of(number)));
-    if Book::RULES <= r {
-        return Book::RULES;
-    }
-    if !bits::is_marked(&m[layout::RULE_MAP_AT..layout::MAP_WORDS], r) {
-        return Book::RULES;
-    }
-    if links::cell_of(m[layout::RULES_AT + r]) != wide(number) {
-        return Book::RULES;
-    }
-    r
+    let r = usize::from(bits::field(
+        &m[layout::PLACES_AT..layout::PLACES_END],
+        usize::from(number),
+    ));
+    let held = r < Book::RULES
+        && bits::is_marked(&m[layout::RULE_MAP_AT..layout::MAP_WORDS], r)
+        && links::cell_of(m[layout::RULES_AT + r]) == u64::from(number);
+    held.then_some(r)
 }
 
-// The rule under a number.
-pub fn show(m: &[u64], number: u16) -> Shown
+// The rule under a number. docs/CONTRACTS.md names it, `change::add` and `change::remove` with plain memory and number, so what these
+// ask stands in their contracts and not in types.
+pub fn show(m: &[u64], number: u16) -> Option<Shown>
     requires passing { Passing m.now }
     requires number_lt_rule_numbers { number < rule_numbers }
-    ensures { Shows m.now number result.held result.size result.cells }
+    ensures { Shows m.now number result }
 {
-    let r = place_of(m, number);
-    if r == Book::RULES {
-        return Shown {
-            held: false,
-            size: 0,
-            cells: [0; 32],
-        };
-    }
+    let r = place_of(m, number)?;
     let at = layout::TERMS_AT + layout::RECORD_WORDS * r;
     let end = at + layout::TERM_WORDS;
     let size = m[at - 1] as usize;
-    Shown {
-        held: true,
-        size,
-        cells: record::load_term(&m[at..end], size),
-    }
+    let cells = record::load_term(&m[at..end], size);
+    Some(Shown { size, cells })
 }
 
 // How full the book is.

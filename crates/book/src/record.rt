@@ -5,7 +5,7 @@ ghost use Rattle.bits.specs.Packed.{parts, fields};
 ghost use Rattle.book.specs.Memory.{form_of};
 ghost use Rattle.book.specs.Filling.{Zeros};
 
-// The 32 cells of a record's words, which are zero from `size` on: the words behind a term are not read.
+// The 32 cells of a record's words, which are zero from `size` on: the words behind a term are not read, so the size is lent beside.
 pub fn load_term(words: &[u64], size: usize) -> [u16; 32]
     requires words_len { length words.now ≡ term_words }
     requires size_bound { size ≤ 32 }
@@ -13,13 +13,11 @@ pub fn load_term(words: &[u64], size: usize) -> [u16; 32]
     ensures { result ≡ fields words.now }
 {
     let mut cells = [0u16; 32];
-    let mut i: usize = 0;
-    while i < size {
+    for i in (0..size).step_by(4) {
         cells[i] = bits::field(words, i);
         cells[i + 1] = bits::field(words, i + 1);
         cells[i + 2] = bits::field(words, i + 2);
         cells[i + 3] = bits::field(words, i + 3);
-        i += 4;
     }
     cells
 }
@@ -27,7 +25,7 @@ pub fn load_term(words: &[u64], size: usize) -> [u16; 32]
 fn cell_or_zero(term: &[u16], i: usize) -> u16
     ensures { result ≡ get_or term.now i 0 }
 {
-    if i < term.len() { term[i] } else { 0 }
+    term.get(i).copied().unwrap_or(0)
 }
 
 // Four cells from a place on as one word: a word past the end costs one test, and most terms are short.
@@ -38,10 +36,10 @@ fn four(term: &[u16], i: usize) -> u64
     if term.len() <= i {
         return 0;
     }
-    let a = crate::wide(cell_or_zero(term, i));
-    let b = crate::wide(cell_or_zero(term, i + 1));
-    let c = crate::wide(cell_or_zero(term, i + 2));
-    let d = crate::wide(cell_or_zero(term, i + 3));
+    let a = u64::from(cell_or_zero(term, i));
+    let b = u64::from(cell_or_zero(term, i + 1));
+    let c = u64::from(cell_or_zero(term, i + 2));
+    let d = u64::from(cell_or_zero(term, i + 3));
     ((a * 65536 + b) * 65536 + c) * 65536 + d
 }
 
@@ -50,23 +48,19 @@ pub fn store(words: &mut [u64], term: &[u16])
     requires { (length words.old ≡ term_words) × (length term.now ≤ 32) }
     ensures { fields words.new ≡ term.now ++ replicate (32 - length term.now) 0 }
 {
-    let mut i: usize = 0;
-    while i < layout::TERM_WORDS {
-        words[i] = four(term, 4 * i);
-        i += 1;
+    for (i, word) in words.iter_mut().enumerate() {
+        *word = four(term, 4 * i);
     }
 }
 
 // The row of a rule in the tree: its blank form, and behind it its number.
-pub fn row(cells: &[u16], size: usize, number: u16) -> [u16; 33]
-    requires { (size ≤ length cells.now) × (size ≤ 32) }
-    ensures { take (size + 1) result ≡ form_of (take size cells.now) ++ (number ∷ []) }
+pub fn row(term: &[u16], number: u16) -> [u16; 33]
+    requires { length term.now ≤ 32 }
+    ensures { take (length term.now + 1) result ≡ form_of term.now ++ (number ∷ []) }
 {
     let mut row = [number; 33];
-    let mut i: usize = 0;
-    while i < size {
-        row[i] = term::blank(cells[i]);
-        i += 1;
+    for (i, cell) in term.iter().enumerate() {
+        row[i] = term::blank(*cell);
     }
     row
 }

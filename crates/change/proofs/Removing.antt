@@ -8,14 +8,15 @@ use native.Mathlib.Omega.{arith}
 use native.Mathlib.Decide.{ℕ_discrete}
 use borrow.Author.Tests.{eq-eqb, ne_eqb}
 use lib.ListN.{length, get_or, take, drop}
+use Rattle.std.specs.Prelude.{Result, Ok, Err}
 use Rattle.deciding.specs.Deciding.{pick, true_not_false}
 use Rattle.layout.specs.Layout.{nodes_limit, tree_words, places_at, place_words, term_words, record_words, records_at, terms_at, book_words}
 use Rattle.bits.specs.Packed.{fields}
 use Rattle.links.specs.Words.{shape}
 use Rattle.shape.specs.Shape.{Shape}
+use Rattle.book.specs.declared.NotHeld.{NotHeld}
 use Rattle.book.specs.Rules.{nothing, without_rule, removal}
 use Rattle.book.specs.Memory.{view, Passing, rules_in}
-use Rattle.book.specs.declared.Removed.TheVariants.{Gone, NotHeld}
 use Rattle.change.specs.Promises.{Removes}
 use Rattle.change.specs.Change.{removed_right, removed_rules}
 use Rattle.change.specs.Change.{Removed as Taken-away}
@@ -26,7 +27,7 @@ use Rattle.book.specs.Placing.{Placed}
 
 -- ---- nothing to remove
 
-pub nothing_removed : (ws : List ℕ) (k : ℕ) → Passing ws → rules_in ws k ≡ nothing → Removes ws ws k NotHeld
+pub nothing_removed : (ws : List ℕ) (k : ℕ) → Passing ws → rules_in ws k ≡ nothing → Removes ws ws k (Err (record {}))
 nothing_removed ws k p e = record
     { answer = sym (ap removal e); passes = p; rules = fun_ext (λ j. go j (ℕ_discrete j k)); nodes = record { were = λ n l u. u }; same = λ _. refl }
   where
@@ -64,14 +65,14 @@ trimmed_used (stays e) y u = u
 trimmed_used (goes {m} {m₁} {m'} {n} s out rest) y u = let v = trimmed_used rest y u in sym (out.kept.used y (λ e. true_not_false v (ap m₁.used e ∙ out.gone))) ∙ v
 
 pub rule_gone : (ws : List ℕ) (k r : ℕ) → Passing ws → Placed ws k r → (t : List ℕ) → length t ≡ tree_words
-    → Trimmed (shape (take tree_words ws)) (suc (nodes_limit + r)) (shape t) → Removes ws (t ++ drop tree_words ws) k Gone
+    → Trimmed (shape (take tree_words ws)) (suc (nodes_limit + r)) (shape t) → Removes ws (t ++ drop tree_words ws) k (Ok tt)
 rule_gone ws k r p at t lt tr = record {
   answer = sym (ap removal at.rule_is);
   passes = record { size = o.long ∙ p.size; right = removed_right (view ws) (view (t ++ drop tree_words ws)) r (nodes_low ws p.size) p.right removed };
   rules = fun_ext (λ j. removed_rules (view ws) (view (t ++ drop tree_words ws)) r (nodes_low ws p.size) p.right removed j
       ∙ ap (λ (n : ℕ). without_rule (rules_in ws) n j) at.has);
   nodes = record { were = λ n l u. trimmed_used removed.trimmed n u };
-  same = λ e. absurd (gone_held e);
+  same = λ e. absurd (ok_not_err e);
 }
   where
     o : TreeOnly ws (t ++ drop tree_words ws) (shape t)
@@ -87,5 +88,5 @@ rule_gone ws k r p at t lt tr = record {
       cellss = o.cellss;
     }
 
-    gone_held : ¬ (Gone ≡ NotHeld)
-    gone_held e = let z : ◌≡◌ {A = ℕ} 0 1 = cc in omega arith
+    ok_not_err : ¬ (◌≡◌ {A = Result (Unit {0}) NotHeld} (Ok tt) (Err (record {})))
+    ok_not_err e = let z : ◌≡◌ {A = ℕ} 0 1 = cc in omega arith

@@ -1,16 +1,15 @@
 -- Signs are words on which nothing in the book depends: where they alone change it stays what it is.
-use mathlib.Core.Path.{◌≡◌, refl, sym, ap, ◌∙◌, subst, fun_ext}
+use mathlib.Core.Path.{◌≡◌, refl, sym, ap, ap₂, ◌∙◌, subst, fun_ext}
 use mathlib.Core.Logic.{inl, inr}
-use mathlib.Core.List.{List}
-use Prim.Native.Nat.{ℕ, ◌+◌, ◌*◌}
+use mathlib.Core.List.{List, ◌++◌}
+use Prim.Native.Nat.{ℕ, ◌+◌, ◌-◌, ◌*◌}
 use native.Mathlib.Omega.{arith}
 use lib.ListN.{length, get_or, take, drop, length-take, length-drop}
-use borrow.Rule.Slice.PartMut.{put_mid}
+use Rattle.std.specs.Prelude.{Ok}
 use Rattle.layout.specs.Layout.{tree_words, signs_at, sign_words, places_at, place_words, term_words, record_words, records_at, terms_at, book_words}
 use Rattle.bits.specs.Packed.{fields}
 use Rattle.links.specs.Words.{shape}
 use Rattle.shape.specs.Shape.{Shape}
-use Rattle.book.specs.declared.Added.TheVariants.{Taken}
 use Rattle.book.specs.Rules.{Rule}
 use Rattle.book.specs.Memory.{View, view, rules_of, Right}
 use Rattle.change.specs.Promises.{Adds, TakesLowest}
@@ -27,12 +26,8 @@ signs_only {ws} {ws'} e =
     made : Shape → (ℕ → ℕ) → (ℕ → ℕ) → (ℕ → List ℕ) → View
     made t p s c = record { tree = t; place = p; size = s; cells = c }
 
--- one part of the words and then the same part again
-pub twice : {ws ws₁ ws₂ : List ℕ} {a k : ℕ} → Elsewhere ws ws₁ a k → Elsewhere ws₁ ws₂ a k → Elsewhere ws ws₂ a k
-twice e f = record { long = f.long ∙ e.long; kept = λ i h. f.kept i h ∙ e.kept i h }
-
 -- an add that was taken is none the less one with other signs
-pub with_signs : {ws ws₁ ws₂ : List ℕ} {k : ℕ} {it : Rule} → Adds ws ws₁ k it Taken → view ws₂ ≡ view ws₁ → length ws₂ ≡ length ws₁ → Adds ws ws₂ k it Taken
+pub with_signs : {ws ws₁ ws₂ : List ℕ} {k : ℕ} {it : Rule} → Adds ws ws₁ k it (Ok tt) → view ws₂ ≡ view ws₁ → length ws₂ ≡ length ws₁ → Adds ws ws₂ k it (Ok tt)
 with_signs {ws} {ws₁} {ws₂} {k} {it} a e l = record {
   answer = a.answer;
   passes = record { size = l ∙ a.passes.size; right = subst Right (sym e) a.passes.right };
@@ -41,7 +36,13 @@ with_signs {ws} {ws₁} {ws₂} {k} {it} a e l = record {
   same = λ n. absurd (n refl);
 }
 
--- the signs are written
-pub written : (ws p : List ℕ) → length ws ≡ book_words → length p ≡ length (take sign_words (drop signs_at ws))
-    → Elsewhere ws (put_mid signs_at sign_words ws p) signs_at sign_words
-written ws p size e = one_part signs_at sign_words ws p (omega arith) (omega (arith, length-take sign_words (drop signs_at ws), length-drop signs_at ws))
+-- the signs are written behind the tree
+pub written : (ws front rest signs : List ℕ) → length ws ≡ book_words → front ≡ take tree_words ws → rest ≡ drop tree_words ws
+    → length signs ≡ length (take sign_words rest) → Elsewhere ws (front ++ (signs ++ drop sign_words rest)) signs_at sign_words
+written ws front rest signs size f r e =
+    subst (λ (xs : List ℕ). Elsewhere ws xs signs_at sign_words)
+    (sym (ap₂ (λ (x y : List ℕ). x ++ (signs ++ drop sign_words y)) f r))
+    (one_part signs_at sign_words ws signs (omega arith) (omega (arith, e, r_long, length-take sign_words rest)))
+  where
+    r_long : length rest ≡ book_words - tree_words
+    r_long = ap length r ∙ omega (arith, length-drop tree_words ws)

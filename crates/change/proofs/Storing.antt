@@ -57,9 +57,6 @@ module _ (ws p q : List ℕ) (k r n : ℕ) (it : Rule) (size : length ws ≡ boo
   three = subst (λ (z : ℕ). Elsewhere ws₂ (put_mid at z ws₂ q) at term_words) (sym ew) (one_part at term_words ws₂ q (omega (arith, long₂)) lq)
 
   -- a word or a window that none of the three stores meets
-  pub stored_long : length (put_mid at w ws₂ q) ≡ length ws
-  stored_long = three.long ∙ two.long ∙ one.long
-
   sizes : (j : ℕ) → ¬ (j ≡ r) → get_or (put_mid at w ws₂ q) (records_at + record_words * j) 0 ≡ get_or ws (records_at + record_words * j) 0
   sizes j d = three.kept (records_at + record_words * j) (away (sides j r d)) ∙ two.kept (records_at + record_words * j) (off (sides j r d))
       ∙ one.kept (records_at + record_words * j) (inr (omega arith))

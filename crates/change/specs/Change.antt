@@ -1,5 +1,5 @@
 -- One rule more, one rule less: what is right stays right, and the set of rules changes by that rule alone.
-use Rattle.std.specs.Prelude.{◌≡◌, ◌⊎◌, ◌↔◌, Bool, ℕ, zero, suc, ◌+◌, ◌-◌, ◌≤◌, ◌<◌, eqb, ltb, length, get_or, take, replicate}
+use Rattle.std.specs.Prelude.{◌≡◌, ◌⊎◌, ◌↔◌, Bool, ℕ, suc, ◌+◌, ◌-◌, ◌≤◌, ◌<◌, eqb, ltb, length, get_or, take, replicate, Ok}
 use Rattle.std.proofs.Math.Path.{refl, sym, ap, ap₂}
 use Rattle.std.proofs.Common.{◌∙◌, subst, arith, lt-ltb, eq-eqb, ne_eqb, take_at, get_or-append-add}
 use Rattle.std.proofs.Math.Logic.{inl, inr}
@@ -11,7 +11,6 @@ use Rattle.std.proofs.Math.Seq.{take-length}
 use Rattle.deciding.specs.Deciding.{pick, both, both_false, true_not_false}
 use Rattle.layout.specs.Layout.{rule_numbers, nodes_limit, rules_limit, last_link}
 use Rattle.term.specs.Reading.{read_term}
-use Rattle.term.specs.declared.reading.Reading.TheVariants.{Whole}
 use Rattle.term.specs.Whole.{whole_alone}
 use Rattle.shape.specs.Basics.{up_used}
 use Rattle.shape.specs.Shape.{Shape, Used, On, End, Passes, Joins}
@@ -24,6 +23,7 @@ use Rattle.shape.specs.Leaves.{end_of, ends, Hanging, rows_free}
 use Rattle.book.specs.Rules.{Rule, Held, nothing, rule, with_rule, without_rule}
 use Rattle.book.specs.Gathered.{not_rule}
 use Rattle.book.specs.Memory.{View, taken, number, term, rule_at, form, form_of, leaf, leaves, rules_of, Recorded, Right}
+use Rattle.book.specs.Filling.{zeros_are}
 use Rattle.book.specs.Holding.{end_at, of_ends, to_ends, hanging, at_holds}
 
 -- What a place says in two views.
@@ -47,7 +47,7 @@ module _ {v v' : View} {j : ℕ} (s : SameAt v v' j) where
   same_record u p c = record {
     low = subst (λ (k : ℕ). k < rule_numbers) (sym (s.numbers u)) c.low;
     found = ap v'.place (s.numbers u) ∙ p ∙ c.found;
-    whole = ap read_term s.cells ∙ c.whole ∙ ap Whole (sym s.size);
+    whole = ap read_term s.cells ∙ c.whole ∙ ap Ok (sym s.size);
     clean = λ i h. ap (λ (l : List ℕ). get_or l i 0) s.cells ∙ c.clean i (subst (λ (n : ℕ). n ≤ i) s.size h);
   }
 
@@ -92,7 +92,7 @@ pub record Added (v v' : View) (k r p : ℕ) (it : Rule) (m : Shape) : Type 0 wh
   pub new : rules_of v k ≡ nothing
   pub place : r < rules_limit
   pub free : taken v r ≡ false
-  pub whole : read_term it.term ≡ Whole (length it.term)
+  pub whole : read_term it.term ≡ Ok (length it.term)
   pub partly : Partly m (ends (leaves v)) p (reverse (form_of it.term))
   pub rules_kept : (y : ℕ) → nodes_limit ≤ y → (m.used y ≡ v.tree.used y) × (m.cell y ≡ v.tree.cell y)
   pub hung : Hung m v'.tree p r k
@@ -102,11 +102,6 @@ pub record Added (v v' : View) (k r p : ℕ) (it : Rule) (m : Shape) : Type 0 wh
   pub sizes : (j : ℕ) → ¬ (j ≡ r) → v'.size j ≡ v.size j
   pub cells : (n : ℕ) × (v'.cells r ≡ it.term ++ replicate n 0)
   pub cellss : (j : ℕ) → ¬ (j ≡ r) → v'.cells j ≡ v.cells j
-
-zeros : (n i : ℕ) → ◌≡◌ {A = ℕ} (get_or (replicate n 0) i 0) 0
-zeros zero i = refl
-zeros (suc n) zero = refl
-zeros (suc n) (suc i) = zeros n i
 
 module _ (v v' : View) (k r p : ℕ) (it : Rule) (m : Shape) (small : (n : ℕ) → Used v.tree n → n < last_link) (right : Right v) (a : Added v v' k r p it m) where
   abbrev t : List ℕ
@@ -142,7 +137,7 @@ module _ (v v' : View) (k r p : ℕ) (it : Rule) (m : Shape) (small : (n : ℕ) 
     low = subst (λ (x : ℕ). x < rule_numbers) (sym added_number) a.low;
     found = ap v'.place added_number ∙ a.to_place;
     whole = ap read_term (a.cells.1 ∙ ap (λ (l : List ℕ). l ++ replicate a.cells.0 0) (sym (take-length t)))
-        ∙ whole_alone t (replicate a.cells.0 0) (length t) a.whole ∙ ap Whole (sym a.size);
+        ∙ whole_alone t (replicate a.cells.0 0) (length t) a.whole ∙ ap Ok (sym a.size);
     clean = λ i h. ap (λ (l : List ℕ). get_or l i 0) a.cells.1 ∙ past i (subst (λ (n : ℕ). n ≤ i) a.size h);
   }
     where
@@ -150,7 +145,7 @@ module _ (v v' : View) (k r p : ℕ) (it : Rule) (m : Shape) (small : (n : ℕ) 
       past i h =
           let e : i ≡ length t + (i - length t) = omega arith in
           ap (λ (x : ℕ). get_or (t ++ replicate a.cells.0 0) x 0) e ∙ get_or-append-add t (replicate a.cells.0 0) (i - length t) 0
-          ∙ zeros a.cells.0 (i - length t)
+          ∙ zeros_are a.cells.0 (i - length t)
 
   added_records : (j : ℕ) → taken v' j ≡ true → Recorded v' j
   added_records j u = go (ℕ_discrete j r)

@@ -1,13 +1,11 @@
 -- What adding and removing a rule promise.
-use Rattle.std.specs.Prelude.{◌≡◌, List, ◌++◌, true, false, ℕ, ◌-◌, ◌<◌, length, replicate}
-use Rattle.layout.specs.Layout.{nodes_limit}
+use Rattle.std.specs.Prelude.{◌≡◌, Result, Ok, Err, List, ◌++◌, true, false, ℕ, ◌-◌, ◌<◌, length, replicate}
+use Rattle.layout.specs.Layout.{nodes_limit, rules_limit}
 use Rattle.shape.specs.Shape.{Shape}
-use Rattle.book.specs.declared.Added.{Added}
-use Rattle.book.specs.declared.Added.TheVariants.{Taken}
-use Rattle.book.specs.declared.Removed.{Removed}
-use Rattle.book.specs.declared.Removed.TheVariants.{NotHeld}
-use Rattle.book.specs.Rules.{Rule, without_rule, judged, after, removal}
-use Rattle.book.specs.Memory.{View, view, Passing, rules_in}
+use Rattle.book.specs.declared.NotAdded.{NotAdded}
+use Rattle.book.specs.declared.NotHeld.{NotHeld}
+use Rattle.book.specs.Rules.{Rule, nothing, rule_count, without_rule, judged, after, removal}
+use Rattle.book.specs.Memory.{View, view, taken, Passing, rules_in}
 
 -- The nodes that come into use are the free ones of lowest number, and none goes out of use.
 pub record TakesLowest (m m' : Shape) : Type 0 where
@@ -19,20 +17,32 @@ pub record TakesNone (m m' : Shape) : Type 0 where
   pub were : (n : ℕ) → n < nodes_limit → m'.used n ≡ true → m.used n ≡ true
 
 -- An add answers as the rules judge it. Where the rule is taken the book passes with it; where it is refused nothing has changed.
-pub record Adds (ws ws' : List ℕ) (k : ℕ) (it : Rule) (r : Added) : Type 0 where
+pub record Adds (ws ws' : List ℕ) (k : ℕ) (it : Rule) (r : Result (Unit {0}) NotAdded) : Type 0 where
   pub answer : r ≡ judged (rules_in ws) k it
   pub passes : Passing ws'
   pub rules : rules_in ws' ≡ after r (rules_in ws) k it
   pub nodes : TakesLowest (view ws).tree (view ws').tree
-  pub same : ¬ (r ≡ Taken) → ws' ≡ ws
+  pub same : ¬ (r ≡ Ok tt) → ws' ≡ ws
+
+-- A number that is not held, and a place that is free.
+pub record FreePlace (ws : List ℕ) (k r : ℕ) : Type 0 where
+  pub new : rules_in ws k ≡ nothing
+  pub low : r < rules_limit
+  pub free : taken (view ws) r ≡ false
+  pub few : rule_count (rules_in ws) < rules_limit
+
+-- The place for a rule of a new number, or why an add of any rule under this number is refused.
+abbrev pub Chooses : List ℕ → ℕ → Result ℕ NotAdded → Type 0
+Chooses ws k (Ok r) = FreePlace ws k r
+Chooses ws k (Err why) = (it : Rule) → judged (rules_in ws) k it ≡ Err why
 
 -- A remove answers 0 or 7, and the book passes without the rule, with no new node; where there is none nothing has changed.
-pub record Removes (ws ws' : List ℕ) (k : ℕ) (r : Removed) : Type 0 where
+pub record Removes (ws ws' : List ℕ) (k : ℕ) (r : Result (Unit {0}) NotHeld) : Type 0 where
   pub answer : r ≡ removal (rules_in ws k)
   pub passes : Passing ws'
   pub rules : rules_in ws' ≡ without_rule (rules_in ws) k
   pub nodes : TakesNone (view ws).tree (view ws').tree
-  pub same : r ≡ NotHeld → ws' ≡ ws
+  pub same : r ≡ Err (record {}) → ws' ≡ ws
 
 -- The record of a number with its rule comes to the place r, and nothing else changes.
 pub record Stores (v v' : View) (k r : ℕ) (it : Rule) : Type 0 where

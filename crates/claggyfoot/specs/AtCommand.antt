@@ -1,5 +1,5 @@
 -- From `run` to the call: at each command that a batch comes to, the call shows what `run` says of it.
-use Rattle.std.specs.Prelude.{◌≡◌, ◌⊎◌, ◌↔◌, take, drop}
+use Rattle.std.specs.Prelude.{◌≡◌, ◌⊎◌, ◌↔◌, take, drop, Result, Ok, Err}
 use Rattle.std.proofs.Math.Path.{refl, ap}
 use Rattle.std.proofs.Common.{sym, ap₂, ◌∙◌, subst, inl, inr, length-drop}
 use mathlib.Core.List.{List, [], ◌∷◌, ◌++◌, append-nil, append_assoc}
@@ -9,8 +9,7 @@ use Rattle.std.proofs.Math.Decide.{ℕ_discrete, dec_lt}
 use Rattle.std.proofs.Math.ListN.{length, get_or, length-append}
 use Rattle.std.proofs.Math.Seq.{get_or-append_seam}
 use Rattle.term.specs.Whole.{whole_term}
-use Rattle.book.specs.declared.Added.{Added}
-use Rattle.book.specs.declared.Added.TheVariants.{Taken}
+use Rattle.book.specs.declared.NotAdded.{NotAdded}
 use Rattle.book.specs.Rules.{Rule, Held, nothing, rule, Rules, with_rule, nodes_of, judged, refusal_of_add, after}
 use Rattle.book.specs.Memory.{Passing, rules_in}
 use Rattle.book.specs.Facts.{Limited, limited}
@@ -18,16 +17,17 @@ use Rattle.questions.specs.Demand2.{never_more}
 use Rattle.commands.specs.Records.{Record, bare, written}
 use Rattle.commands.specs.declared.reader.Command.{Command}
 use Rattle.commands.specs.declared.kinds.Act.{Act}
-use Rattle.commands.specs.declared.kinds.Act.TheVariants.{Unknown, Add, Remove, Ask, Show, Room}
+use Rattle.commands.specs.declared.reader.Refusal.{Refusal}
+use Rattle.commands.specs.declared.kinds.Act.TheVariants.{Add, Remove, Ask, Show, Room}
 use Rattle.commands.specs.Kinds.{mode_of, kind_at}
-use Rattle.commands.specs.Commands.{command_in}
-use Rattle.commands.specs.Laws.{TakesTerm, FaultIs}
-use Rattle.commands.proofs.Laws.{term_fault, act_is, number_is, read_of}
+use Rattle.commands.specs.Commands.{command_of, command_refusal}
+use Rattle.commands.specs.Laws.{TakesTerm, FaultIs, low_refusal}
+use Rattle.commands.proofs.Laws.{term_fault}
 use Rattle.batch.specs.Effects.{Change, more, change_of, Effect, shown, tells, acts, does}
 use Rattle.batch.specs.Run.{Outcome, ends_with, is_going_on, run}
 use Rattle.batch.specs.Promises.{Came, Changes, Along, none, then, ran, turned_away, passing}
-use Rattle.batch.specs.Laws.{does_stop, does_act, any_effect, rest, run_none, run_10, run_stops, run_goes_on, along_on, unchanged}
-use Rattle.claggyfoot.specs.Stages.{Stage, onward, Reaches, start, next, from, reached, does_rules, first_of, MemoryAt, memory_at}
+use Rattle.batch.specs.Laws.{does_act, any_effect, rest, run_none, run_10, along_on, unchanged}
+use Rattle.claggyfoot.specs.Stages.{stop_tells, stops_with, goes_on_by, Stage, onward, Reaches, start, next, from, reached, does_rules, first_of, MemoryAt, memory_at}
 use Rattle.claggyfoot.specs.Calls.{Exactly, Call, Kept, CameTo, Idle, NodesTaken, effect_of, size_of, rule_of, StopsHere, Answered, Ended, GoneOn, RefusedOn, StoppedBy}
 use Rattle.claggyfoot.specs.NewNodes.{InUse, free_below, which_nodes}
 use Rattle.claggyfoot.specs.Refusals.{AddsTerm, add_refused, goes_on_with, is_added, told_only, refused_stays}
@@ -63,13 +63,12 @@ shown_bare : (h : Held) → ¬ ((shown h).refusal ≡ 0) → shown h ≡ bare (s
 shown_bare nothing n = refl
 shown_bare (rule r) n = absurd (n refl)
 
-pub refused_bare : (rules : Rules) (behind : List ℕ) (x : Command) → ¬ ((does rules behind x).answer.refusal ≡ 0)
+pub refused_bare : (rules : Rules) (behind : List ℕ) (x : Result Command Refusal) → ¬ ((does rules behind x).answer.refusal ≡ 0)
     → (does rules behind x).answer ≡ bare (does rules behind x).answer.refusal
 refused_bare rules behind x = any_effect rules behind x (λ e. ¬ (e.answer.refusal ≡ 0) → e.answer ≡ bare e.answer.refusal)
-    (go x.act x.number (take x.size behind)) (λ n. refl)
+    (λ c. go c.act c.number (take c.size behind)) (λ why n. refl)
   where
     go : (a : Act) (k : ℕ) (t : List ℕ) → ¬ ((acts a rules k t).answer.refusal ≡ 0) → (acts a rules k t).answer ≡ bare (acts a rules k t).answer.refusal
-    go Unknown k t n = refl
     go Add k t n = refl
     go Remove k t n = refl
     go (Ask fq fr) k t n = absurd (n refl)
@@ -77,27 +76,30 @@ refused_bare rules behind x = any_effect rules behind x (λ e. ¬ (e.answer.refu
     go Room k t n = absurd (n refl)
 
 -- a record's count has room in its 12 bits
-short_record : (rules : Rules) → Limited rules → (behind : List ℕ) (x : Command) → length (does rules behind x).answer.cells < 4096
-short_record rules l behind x = any_effect rules behind x (λ e. length e.answer.cells < 4096) (go x.act x.number (take x.size behind)) (omega arith)
+short_record : (rules : Rules) → Limited rules → (behind : List ℕ) (x : Result Command Refusal) → length (does rules behind x).answer.cells < 4096
+short_record rules l behind x = any_effect rules behind x (λ e. length e.answer.cells < 4096) (λ c. go c.act c.number (take c.size behind)) (λ why. omega arith)
   where
     showing : (k : ℕ) (h : Held) → rules k ≡ h → length (shown h).cells < 4096
     showing k nothing e = omega arith
     showing k (rule r) e = let a = (whole_term r.term (length r.term) (l.whole k r e)).short in omega arith
 
     go : (a : Act) (k : ℕ) (t : List ℕ) → length (acts a rules k t).answer.cells < 4096
-    go Unknown k t = omega arith
     go Add k t = omega arith
     go Remove k t = omega arith
     go (Ask fq fr) k t = let a = never_more (mode_of fq fr) t rules in let b = l.few in omega arith
     go Show k t = showing k (rules k) refl
     go Room k t = omega arith
 
+low_stop : (x : Result Command Refusal) → command_refusal x ≤ 5
+low_stop (Ok c) = omega arith
+low_stop (Err why) = low_refusal why
+
 -- a command that stops the batch only tells with which number
-pub does_stops : (rules : Rules) (behind : List ℕ) (x : Command) (r : ℕ) → ¬ (r ≡ 0) → x.stop ≡ r → does rules behind x ≡ tells (bare r) rules
-does_stops rules behind x r n e = does_stop rules behind x (λ z. n (sym e ∙ z)) ∙ ap (λ (j : ℕ). tells (bare j) rules) e
+pub does_stops : (rules : Rules) (behind : List ℕ) (x : Result Command Refusal) (r : ℕ) → ¬ (r ≡ 0) → command_refusal x ≡ r → does rules behind x ≡ tells (bare r) rules
+does_stops rules behind x r n e = stop_tells rules behind x (λ z. n (sym e ∙ z)) ∙ ap (λ (j : ℕ). tells (bare j) rules) e
 
 -- what a refused command does: it tells its refusal, and nothing else
-pub refused_tells : (rules : Rules) (behind : List ℕ) (x : Command) (r : ℕ) → ¬ (r ≡ 0) → (does rules behind x).answer.refusal ≡ r
+pub refused_tells : (rules : Rules) (behind : List ℕ) (x : Result Command Refusal) (r : ℕ) → ¬ (r ≡ 0) → (does rules behind x).answer.refusal ≡ r
     → does rules behind x ≡ tells (bare r) rules
 refused_tells rules behind x r n e =
     let some : ¬ ((does rules behind x).answer.refusal ≡ 0) = λ z. n (sym e ∙ z) in
@@ -112,8 +114,8 @@ refused_tells rules behind x r n e =
 -- ---- at the call
 
 module _ {call : Call} {s : Stage} {c : ℕ} {behind : List ℕ} (at : CameTo call s c behind) where
-  abbrev command : Command
-  command = command_in (c ∷ behind)
+  abbrev command : Result Command Refusal
+  command = command_of c behind
 
   abbrev effect : Effect
   effect = effect_of s c behind
@@ -155,16 +157,16 @@ module _ {call : Call} {s : Stage} {c : ℕ} {behind : List ℕ} (at : CameTo ca
   pub ended_10 : s.room ≤ length effect.answer.cells → Ended call s 10 s.records
   ended_10 l = subst (Ended call s 10) (append-nil s.records) (ends_here 10 [] (run_10 s.rules c behind s.room l))
 
-  pub ended_by : (r : ℕ) → ¬ (r ≡ 0) → command.stop ≡ r → 0 < s.room → StoppedBy call s r
+  pub ended_by : (r : ℕ) → ¬ (r ≡ 0) → command_refusal command ≡ r → 0 < s.room → StoppedBy call s r
   ended_by r n e h =
       let same : effect ≡ tells (bare r) s.rules = does_stops s.rules behind command r n e in
       let few : length effect.answer.cells < s.room = subst (λ (x : Effect). length x.answer.cells < s.room) (sym same) h in
-      ends_here r (bare r ∷ []) (run_stops s.rules c behind s.room few (λ z. n (sym e ∙ z)) ∙ ap₂ ends_with e same)
+      ends_here r (bare r ∷ []) (stops_with s.rules c behind s.room few (λ z. n (sym e ∙ z)) ∙ ap₂ ends_with e same)
 
-  pub gone_on : length effect.answer.cells < s.room → command.stop ≡ 0 → GoneOn call s effect.answer (onward s (size_of c behind) effect behind)
+  pub gone_on : length effect.answer.cells < s.room → command_refusal command ≡ 0 → GoneOn call s effect.answer (onward s (size_of c behind) effect behind)
   gone_on l z =
       let o = rest s.rules c behind s.room in
-      let x = comes (is_going_on (suc (size_of c behind)) effect o) (run_goes_on s.rules c behind s.room l z) in
+      let x = comes (is_going_on (suc (size_of c behind)) effect o) (goes_on_by s.rules c behind s.room l z) in
       record {
         after = o.records;
         written_is = x.written_is;
@@ -177,7 +179,7 @@ module _ {call : Call} {s : Stage} {c : ℕ} {behind : List ℕ} (at : CameTo ca
 
   -- it ends here exactly when its record has no room or it stops the batch
   sees : length effect.answer.cells < s.room → Answered call s effect.answer.refusal
-  sees l = go (ℕ_discrete command.stop 0)
+  sees l = go (ℕ_discrete (command_refusal command) 0)
     where
       low : length effect.answer.cells < 4096
       low = short_record s.rules limits behind command
@@ -192,12 +194,12 @@ module _ {call : Call} {s : Stage} {c : ℕ} {behind : List ℕ} (at : CameTo ca
           let d = low in
           (omega arith, omega arith)
 
-      go : Dec (command.stop ≡ 0) → Answered call s effect.answer.refusal
+      go : Dec (command_refusal command ≡ 0) → Answered call s effect.answer.refusal
       go (yes z) = let g = gone_on l z in with_records g.after g.written_is g.output_is
       go (no z) =
-          let same = does_stops s.rules behind command command.stop z refl in
-          let x = ended_by command.stop z refl (omega arith) in
-          let e : bare command.stop ≡ effect.answer = ap (λ (f : Effect). f.answer) (sym same) in
+          let same = does_stops s.rules behind command (command_refusal command) z refl in
+          let x = ended_by (command_refusal command) z refl (omega arith) in
+          let e : bare (command_refusal command) ≡ effect.answer = ap (λ (f : Effect). f.answer) (sym same) in
           with_records [] (x.written_is ∙ ap (λ (a : Record). length (written (s.records ++ (a ∷ [])))) e)
           (x.output_is ∙ ap (λ (a : Record). written (s.records ++ (a ∷ [])) ++ drop call.written_cells call.output) e)
 
@@ -211,34 +213,34 @@ module _ {call : Call} {s : Stage} {c : ℕ} {behind : List ℕ} (at : CameTo ca
   -- ---- exactly when
 
   -- it stops here with r, and not for want of room
-  stops_only : (r : ℕ) → ¬ (r ≡ 0) → ¬ (r ≡ 10) → StopsHere call s r → (0 < s.room) × (command.stop ≡ r)
-  stops_only r n d x = go (dec_lt (length effect.answer.cells) s.room) (ℕ_discrete command.stop 0)
+  stops_only : (r : ℕ) → ¬ (r ≡ 0) → ¬ (r ≡ 10) → StopsHere call s r → (0 < s.room) × ((command_refusal command) ≡ r)
+  stops_only r n d x = go (dec_lt (length effect.answer.cells) s.room) (ℕ_discrete (command_refusal command) 0)
     where
-      go : Dec (length effect.answer.cells < s.room) → Dec (command.stop ≡ 0) → (0 < s.room) × (command.stop ≡ r)
+      go : Dec (length effect.answer.cells < s.room) → Dec (command_refusal command ≡ 0) → (0 < s.room) × ((command_refusal command) ≡ r)
       go (no l) z = absurd (d (sym x.0 ∙ (ended_10 (omega arith)).stop_is))
       go (yes l) (yes z) = absurd (let g = (gone_on l z).counted in let u = x.1 in omega arith)
       go (yes l) (no z) =
-          (omega arith, sym (ended_by command.stop z refl (omega arith)).stop_is ∙ x.0)
+          (omega arith, sym (ended_by (command_refusal command) z refl (omega arith)).stop_is ∙ x.0)
 
-  pub stops_exactly : (r : ℕ) → ¬ (r ≡ 0) → ¬ (r ≡ 10) → {P : Type 0} → command.stop ≡ r ↔ P → Exactly (StopsHere call s r) ((0 < s.room) × P) (StoppedBy call s r)
+  pub stops_exactly : (r : ℕ) → ¬ (r ≡ 0) → ¬ (r ≡ 10) → {P : Type 0} → command_refusal command ≡ r ↔ P → Exactly (StopsHere call s r) ((0 < s.room) × P) (StoppedBy call s r)
   stops_exactly r n d {P} w = (((λ x. let y = stops_only r n d x in (y.0, w.0 y.1)), (λ y. let e = all y in (e.stop_is, e.used_is))), all)
     where
       all : (0 < s.room) × P → StoppedBy call s r
       all y = ended_by r n (w.1 y.1) y.0
 
   -- the batch goes on behind a refused command: the same words
-  pub idle_stays : effect.changes ≡ [] → length effect.answer.cells < s.room → command.stop ≡ 0 → (m : List ℕ)
+  pub idle_stays : effect.changes ≡ [] → length effect.answer.cells < s.room → command_refusal command ≡ 0 → (m : List ℕ)
       → MemoryAt call.book call.book' s m → MemoryAt call.book call.book' (onward s (size_of c behind) effect behind) m
   idle_stays e l z m x = record {
     passes = x.passes;
     rules_are = x.rules_are ∙ sym (does_rules s.rules behind command e);
     so_far = subst (λ (cs : List Change). Along cs call.book m) (sym (ap (λ (cs : List Change). s.changes ++ cs) e ∙ append-nil s.changes)) x.so_far;
     to_come = subst (λ (cs : List Change). Along cs m call.book')
-        (ap (λ (y : List ℕ). (run s.rules y s.room).changes) at.here ∙ ap (λ (o : Outcome). o.changes) (run_goes_on s.rules c behind s.room l z)
+        (ap (λ (y : List ℕ). (run s.rules y s.room).changes) at.here ∙ ap (λ (o : Outcome). o.changes) (goes_on_by s.rules c behind s.room l z)
         ∙ ap (λ (cs : List Change). cs ++ (rest s.rules c behind s.room).changes) e) x.to_come;
   }
 
-  pub refused_on : (r : ℕ) → ¬ (r ≡ 0) → command.stop ≡ 0 → effect.answer.refusal ≡ r → 0 < s.room → RefusedOn call s r c behind
+  pub refused_on : (r : ℕ) → ¬ (r ≡ 0) → command_refusal command ≡ 0 → effect.answer.refusal ≡ r → 0 < s.room → RefusedOn call s r c behind
   refused_on r n z e h =
       let same = refused_tells s.rules behind command r n e in
       let few : length effect.answer.cells < s.room = subst (λ (x : Effect). length x.answer.cells < s.room) (sym same) h in
@@ -248,7 +250,7 @@ module _ {call : Call} {s : Stage} {c : ℕ} {behind : List ℕ} (at : CameTo ca
             (idle_stays (ap (λ (f : Effect). f.changes) same) few z m x);
       }
 
-  pub refused_exactly : (r : ℕ) → ¬ (r ≡ 0) → (effect.answer.refusal ≡ r → command.stop ≡ 0) → {P : Type 0} → effect.answer.refusal ≡ r ↔ P
+  pub refused_exactly : (r : ℕ) → ¬ (r ≡ 0) → (effect.answer.refusal ≡ r → command_refusal command ≡ 0) → {P : Type 0} → effect.answer.refusal ≡ r ↔ P
       → Exactly (Answered call s r) ((0 < s.room) × P) (RefusedOn call s r c behind)
   refused_exactly r n goes {P} w = (
     (
@@ -268,12 +270,12 @@ module _ {call : Call} {s : Stage} {c : ℕ} {behind : List ℕ} (at : CameTo ca
     where
       to : StopsHere call s 10 → Dec (length effect.answer.cells < s.room) → s.room ≤ length effect.answer.cells
       to x (no l) = omega arith
-      to x (yes l) = go (ℕ_discrete command.stop 0)
+      to x (yes l) = go (ℕ_discrete (command_refusal command) 0)
         where
-          go : Dec (command.stop ≡ 0) → s.room ≤ length effect.answer.cells
+          go : Dec (command_refusal command ≡ 0) → s.room ≤ length effect.answer.cells
           go (yes z) = absurd (let g = (gone_on l z).counted in let u = x.1 in omega arith)
-          go (no z) = absurd (let e : command.stop ≡ 10 = sym (ended_by command.stop z refl (omega arith)).stop_is ∙ x.0 in
-              let low = (read_of (c / 4096) (c % 4096) behind (omega arith)).stop_low in omega arith)
+          go (no z) = absurd (let e : (command_refusal command) ≡ 10 = sym (ended_by (command_refusal command) z refl (omega arith)).stop_is ∙ x.0 in
+              let low = low_stop command in omega arith)
 
   -- 3, 4, 5; and 6, 8, 9
   pub fault_exactly : (r : ℕ) → 3 ≤ r → ¬ (r ≡ 10) → {P : Type 0} → FaultIs r behind ↔ P
@@ -294,18 +296,23 @@ module _ {call : Call} {s : Stage} {c : ℕ} {behind : List ℕ} (at : CameTo ca
 
   -- ---- an add that takes effect
 
-  goes_on : AddsTerm (kind_at (c / 4096)) behind (size_of c behind) → command.stop ≡ 0
-  goes_on x = ap (λ (y : Command). y.stop) (is_added s.rules (c / 4096) (c % 4096) (omega arith) behind (size_of c behind) x)
+  goes_on : AddsTerm (kind_at (c / 4096)) behind (size_of c behind) → command_refusal command ≡ 0
+  goes_on x = ap command_refusal (is_added s.rules (c / 4096) (c % 4096) (omega arith) behind (size_of c behind) x)
 
-  taken_does : AddsTerm (kind_at (c / 4096)) behind (size_of c behind) → judged s.rules (c % 4096) (rule_of c behind) ≡ Taken
+  taken_does : AddsTerm (kind_at (c / 4096)) behind (size_of c behind) → judged s.rules (c % 4096) (rule_of c behind) ≡ Ok tt
       → effect ≡ record { answer = bare 0; rules = with_rule s.rules (c % 4096) (rule_of c behind); changes = more (c % 4096) (rule_of c behind) ∷ [] }
   taken_does x e =
-      let k = c % 4096 in let t = take (size_of c behind) behind in
-      does_act s.rules behind command (goes_on x)
-      ∙ ap₂ (λ (a : Act) (j : ℕ). acts a s.rules j t) (act_is (kind_at (c / 4096)) k behind ∙ x.0) (number_is (kind_at (c / 4096)) k behind)
-      ∙ ap (λ (a : Added). record { answer = bare (refusal_of_add a); rules = after a s.rules k (rule_of c behind); changes = change_of a k (rule_of c behind) }) e
+      let k = c % 4096 in
+      does_act s.rules behind command (record { act = Add; number = k; size = size_of c behind })
+      (is_added s.rules (c / 4096) k (omega arith) behind (size_of c behind) x)
+      ∙ ap
+      (λ (a : Result (Unit {0}) NotAdded). record {
+        answer = bare (refusal_of_add a);
+        rules = after a s.rules k (rule_of c behind);
+        changes = change_of a k (rule_of c behind);
+      }) e
 
-  pub nodes_taken : 0 < s.room → AddsTerm (kind_at (c / 4096)) behind (size_of c behind) → judged s.rules (c % 4096) (rule_of c behind) ≡ Taken
+  pub nodes_taken : 0 < s.room → AddsTerm (kind_at (c / 4096)) behind (size_of c behind) → judged s.rules (c % 4096) (rule_of c behind) ≡ Ok tt
       → NodesTaken call s (onward s (size_of c behind) effect behind)
   nodes_taken h x e =
       record {
@@ -341,7 +348,7 @@ module _ {call : Call} {s : Stage} {c : ℕ} {behind : List ℕ} (at : CameTo ca
       f : (m' : List ℕ) × Changes (more k its) m.0 m' × Along (rest s.rules c behind s.room).changes m' call.book'
       f = first_of (more k its) (rest s.rules c behind s.room).changes m.1.to_come
           (ap (λ (y : List ℕ). (run s.rules y s.room).changes) at.here
-          ∙ ap (λ (o : Outcome). o.changes) (run_goes_on s.rules c behind s.room few (goes_on x))
+          ∙ ap (λ (o : Outcome). o.changes) (goes_on_by s.rules c behind s.room few (goes_on x))
           ∙ ap (λ (cs : List Change). cs ++ (rest s.rules c behind s.room).changes) new)
 
       held : rules_in f.0 ≡ effect.rules
@@ -350,7 +357,7 @@ module _ {call : Call} {s : Stage} {c : ℕ} {behind : List ℕ} (at : CameTo ca
 -- ---- commands that change nothing
 
 pub idle : (s : Stage) (c : ℕ) (behind : List ℕ) → Idle s c behind → (effect_of s c behind).changes ≡ []
-idle s c behind (inl n) = refused_stays s.rules behind (command_in (c ∷ behind)) n
+idle s c behind (inl n) = refused_stays s.rules behind (command_of c behind) n
 idle s c behind (inr x) = told_only s.rules (c / 4096) (c % 4096) (omega arith) behind x.0
 
 module _ (call : Call) (kept : Kept call) (p : Passing call.book) (all : (s : Stage) (c : ℕ) (behind : List ℕ) → CameTo call s c behind → Idle s c behind) where
@@ -362,7 +369,7 @@ module _ (call : Call) (kept : Kept call) (p : Passing call.book) (all : (s : St
   none_from zero s r (c ∷ behind) e h = absurd (omega arith)
   none_from (suc fuel) s r [] e h = ap (λ (o : Outcome). o.changes) (run_none s.rules s.room)
   none_from (suc fuel) s r (c ∷ behind) e h = go (λ t q l. none_from fuel t q t.cells refl l) (dec_lt (length x.answer.cells) s.room)
-      (ℕ_discrete (command_in (c ∷ behind)).stop 0)
+      (ℕ_discrete (command_refusal (command_of c behind)) 0)
     where
       x : Effect
       x = effect_of s c behind
@@ -371,11 +378,11 @@ module _ (call : Call) (kept : Kept call) (p : Passing call.book) (all : (s : St
       stay = idle s c behind (all s c behind (record { kept = kept; passes = p; reaches = r; here = e }))
 
       go : ((t : Stage) → ComesTo t → length t.cells ≤ fuel → (run t.rules t.cells t.room).changes ≡ [])
-          → Dec (length x.answer.cells < s.room) → Dec ((command_in (c ∷ behind)).stop ≡ 0) → (run s.rules (c ∷ behind) s.room).changes ≡ []
+          → Dec (length x.answer.cells < s.room) → Dec (command_refusal (command_of c behind) ≡ 0) → (run s.rules (c ∷ behind) s.room).changes ≡ []
       go ih (no l) z = ap (λ (o : Outcome). o.changes) (run_10 s.rules c behind s.room (omega arith))
-      go ih (yes l) (no z) = ap (λ (o : Outcome). o.changes) (run_stops s.rules c behind s.room l z) ∙ stay
+      go ih (yes l) (no z) = ap (λ (o : Outcome). o.changes) (stops_with s.rules c behind s.room l z) ∙ stay
       go ih (yes l) (yes z) =
-          ap (λ (o : Outcome). o.changes) (run_goes_on s.rules c behind s.room l z)
+          ap (λ (o : Outcome). o.changes) (goes_on_by s.rules c behind s.room l z)
           ∙ ap₂ (λ (cs ds : List Change). cs ++ ds) stay (ih (onward s (size_of c behind) x behind) (next r e z l) (omega (arith, length-drop (size_of c behind) behind)))
 
   all_idle : call.book' ≡ call.book

@@ -4,7 +4,7 @@ use Rattle.layout.specs.Layout.{nodes_limit}
 use Rattle.book.specs.Rules.{Rule, plain, nodes_of}
 use Rattle.book.specs.Memory.{Passing, rules_in}
 use Rattle.commands.specs.Records.{Record, bare, written}
-use Rattle.commands.specs.Commands.{command_in}
+use Rattle.commands.specs.Commands.{command_of, command_size}
 use Rattle.batch.specs.Effects.{Effect, does, tells}
 use Rattle.batch.specs.Promises.{Runs}
 use Rattle.claggyfoot.specs.Stages.{Stage, onward, Reaches, MemoryAt}
@@ -38,10 +38,10 @@ pub record CameTo (call : Call) (s : Stage) (c : ℕ) (behind : List ℕ) : Type
 
 -- What the cells of a command say, what that does to the rules of the stage, and how many cells behind its command cell are its own.
 abbrev pub effect_of : Stage → ℕ → List ℕ → Effect
-effect_of s c behind = does s.rules behind (command_in (c ∷ behind))
+effect_of s c behind = does s.rules behind (command_of c behind)
 
 abbrev pub size_of : ℕ → List ℕ → ℕ
-size_of c behind = (command_in (c ∷ behind)).size
+size_of c behind = command_size (command_of c behind)
 
 -- The rule that an add adds.
 abbrev pub rule_of : ℕ → List ℕ → Rule

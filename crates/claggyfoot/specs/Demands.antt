@@ -8,16 +8,15 @@
 -- A theorem on a refusal is `Exactly is condition follows`: the refusal is given exactly when the condition holds, and then all that follows holds:
 -- the numbers answered, every output cell, byte and word. `CameTo call s c behind` says of which command: the call comes to the stage s, where the
 -- command cell is c, with the cells behind it (specs/Stages, specs/Calls).
-use Rattle.std.specs.Prelude.{◌≡◌, refl, ◌⊎◌, ◌↔◌, ℕ, ◌+◌, ◌*◌, ◌/◌, ◌%◌, ◌≤◌, ◌<◌, length, get_or, take, drop}
+use Rattle.std.specs.Prelude.{◌≡◌, refl, ◌⊎◌, ◌↔◌, ℕ, ◌+◌, ◌*◌, ◌/◌, ◌%◌, ◌≤◌, ◌<◌, length, get_or, take, drop, Option, Some, Ok}
 use Rattle.std.proofs.Common.{sym, ap, ap₂, ◌∙◌, subst, inl, inr, arith, take_at}
-use mathlib.Core.List.{List, [], ◌∷◌, ◌++◌, Memᴰ}
+use mathlib.Core.List.{List, [], ◌++◌, Memᴰ}
 use Rattle.std.proofs.Math.Decide.{ℕ_discrete}
 use Rattle.layout.specs.Layout.{book_words, rules_limit, nodes_limit}
 use Rattle.term.specs.Questions.{Mode, instances, generalisations}
 use Rattle.term.specs.declared.reading.Fault.TheVariants.{TooLong, CutShort, FieldSet, AboveFifteen, AboveCount}
 use Rattle.names.specs.Name.{IsName}
 use Rattle.names.specs.Table.{Holds, Missing, put, Passes as PassesTable}
-use Rattle.book.specs.declared.Added.TheVariants.{Taken}
 use Rattle.book.specs.Rules.{Rule, nothing, rule, Rules, with_rule, rule_count, nodes_of, judged}
 use Rattle.book.specs.Memory.{Passing, rules_in}
 use Rattle.book.specs.Promises.{IsTerm, Empties}
@@ -25,25 +24,22 @@ use Rattle.book.specs.Facts.{empty_passes, empties_once}
 use Rattle.questions.specs.Asking.{Ordered, answers, Listed}
 use Rattle.questions.specs.Demand2.{WholeRules, lists, ordered, never_more, other_way_listed}
 use Rattle.commands.specs.Records.{good, written}
-use Rattle.commands.specs.declared.kinds.Act.{Act}
 use Rattle.commands.specs.declared.kinds.Kind.{Kind}
-use Rattle.commands.specs.Kinds.{ask, kind_at, about_term, mode_is}
+use Rattle.commands.specs.Kinds.{ask, kind_at, act_of, mode_is}
 use Rattle.commands.specs.Words.{InWords, in_words}
-use Rattle.commands.specs.Commands.{command_in}
+use Rattle.commands.specs.Commands.{command_of, command_refusal}
 use Rattle.commands.specs.Laws.{Wrong, TakesTerm, Faulty, fault_3, fault_4, fault_5, whole_behind}
-use Rattle.commands.proofs.Laws.{two, act_is, read_of}
-use Rattle.batch.specs.Effects.{Effect, tells, acts}
+use Rattle.commands.proofs.Laws.{two}
+use Rattle.batch.specs.Effects.{Effect, tells}
 use Rattle.batch.specs.Run.{Outcome, run}
 use Rattle.batch.specs.Promises.{Came, Ran, TurnedAway, Runs, ran, turned_away, passing}
-use Rattle.batch.specs.Laws.{does_act}
 use Rattle.claggyfoot.specs.Stages.{Stage, onward, does_rules, MemoryAt}
 use Rattle.claggyfoot.specs.Calls.{Exactly, Call, Kept, CameTo, effect_of, size_of, rule_of, Idle, StopsHere, Answered, Ended, GoneOn, RefusedOn, StoppedBy, NodesTaken}
-use Rattle.claggyfoot.specs.Refusals.{AddsTerm, NamesRule, IsHeldAlready, StopNumber, Ends, six, eight, nine, not_held, goes_on_with, batch_ends}
+use Rattle.claggyfoot.specs.Refusals.{AddsTerm, NamesRule, IsHeldAlready, StopNumber, Ends, six, eight, nine, not_held, goes_on_with, read_whole, acting, batch_ends}
 use Rattle.claggyfoot.specs.AtCommand.{memory, limits, answered, stops_exactly, refused_exactly, ten, gone_on, fault_exactly, add_exactly, nodes_taken, idle, idle_stays, idle_keeps}
 use Rattle.claggyfoot.specs.Naming.{Gave, Told, enter_1, enter_11, enter_12, enter_held, enter_new, name_of_1, name_of_13, name_of_held}
 use Rattle.claggyfoot.specs.Numbers.{EntersNumbers, PartNumbers, ChecksNumber, passing as passing-number, failing}
 use Rattle.term.specs.Reading.{read_term}
-use Rattle.term.specs.declared.reading.Reading.TheVariants.{Whole}
 use Rattle.text.specs.declared.TextRead.{TextRead}
 use Rattle.text.specs.Promises.{told, table_of, Reads}
 use Rattle.typed.specs.Refusals.{TokenRefused, AllTaken, tokens_of, fault_of, stop_of, names_with, whole}
@@ -98,7 +94,7 @@ module _ {call : Call} {s : Stage} {c : ℕ} {behind : List ℕ} (at : CameTo ca
   abbrev kind : ℕ
   kind = c / 4096
 
-  abbrev row : Kind
+  abbrev row : Option Kind
   row = kind_at kind
 
   abbrev number : ℕ
@@ -165,15 +161,15 @@ module _ {call : Call} {s : Stage} {c : ℕ} {behind : List ℕ} (at : CameTo ca
 
   -- A refused command never changes the book, nor does one of kind 2 to 7: the same rules ..
   pub refused_never_changes : Idle s c behind → (effect_of s c behind).rules ≡ s.rules
-  refused_never_changes i = does_rules s.rules behind (command_in (c ∷ behind)) (idle s c behind i)
+  refused_never_changes i = does_rules s.rules behind (command_of c behind) (idle s c behind i)
 
   -- .. and where the batch goes on the memory before it is the memory after it, word for word. (Where it stops there, see `memory_is` of `Ended`.)
-  pub refused_same_words : Idle s c behind → length (effect_of s c behind).answer.cells < s.room → (command_in (c ∷ behind)).stop ≡ 0
+  pub refused_same_words : Idle s c behind → length (effect_of s c behind).answer.cells < s.room → command_refusal (command_of c behind) ≡ 0
       → (m : List ℕ) → MemoryAt call.book call.book' s m → MemoryAt call.book call.book' (onward s size (effect_of s c behind) behind) m
   refused_same_words i = idle_stays at (idle s c behind i)
 
   -- An add that takes effect: which nodes come into use.
-  pub new_nodes : 0 < s.room → AddsTerm row behind size → judged s.rules number new_rule ≡ Taken → NodesTaken call s (onward s size (effect_of s c behind) behind)
+  pub new_nodes : 0 < s.room → AddsTerm row behind size → judged s.rules number new_rule ≡ Ok tt → NodesTaken call s (onward s size (effect_of s c behind) behind)
   new_nodes = nodes_taken at
 
 -- 11: no name: empty, over 31 bytes, a byte outside 32 to 126, or first or last byte a space. Number 0, every byte of the table as it was.
@@ -243,7 +239,7 @@ module _ {table text table' : List ℕ} {r : TextRead} (call : Reads table text 
   text_reads = text_read call names free holds
 
   -- Its cells are one whole term, so no batch refuses it with 3, 4 or 5.
-  pub text_whole : r.refusal ≡ 0 → read_term r.cells ≡ Whole r.size
+  pub text_whole : r.refusal ≡ 0 → read_term r.cells ≡ Ok r.size
   text_whole = text_term call names free holds
 
 -- A batch on a book that passes stops with 0, 2, 3, 4, 5 or 10; with 0 exactly when all cells are used.
@@ -273,8 +269,8 @@ pub record ListsExactly (mode : Mode) (question : List ℕ) (rules : Rules) (num
   pub few : length numbers ≤ rule_count rules
 
 -- Each question that a batch comes to has such a list for its record, written in full, where the list has room; and then the batch goes on with the same rules.
-pub demand_2 : {call : Call} {s : Stage} {c : ℕ} {behind : List ℕ} → CameTo call s c behind → (mode : Mode) → (kind_at (c / 4096)).act ≡ ask mode
-    → (command_in (c ∷ behind)).stop ≡ 0
+pub demand_2 : {call : Call} {s : Stage} {c : ℕ} {behind : List ℕ} → CameTo call s c behind → (mode : Mode) → act_of (kind_at (c / 4096)) ≡ Some (ask mode)
+    → command_refusal (command_of c behind) ≡ 0
     → ListsExactly mode (take (size_of c behind) behind) s.rules (answers mode (take (size_of c behind) behind) s.rules)
     × (length (answers mode (take (size_of c behind) behind) s.rules) < s.room
     → GoneOn call s (good (answers mode (take (size_of c behind) behind) s.rules))
@@ -285,16 +281,13 @@ demand_2 {call} {s} {c} {behind} at mode is z =
     q : List ℕ
     q = take (size_of c behind) behind
 
-    act : (command_in (c ∷ behind)).act ≡ ask mode
-    act = act_is (kind_at (c / 4096)) (c % 4096) behind ∙ is
-
     -- the question was read as a whole term
     w : IsTerm q
-    w = whole_behind behind (size_of c behind) ((read_of (c / 4096) (c % 4096) behind (omega arith)).whole z (ap about_term act))
+    w = whole_behind behind (size_of c behind) (read_whole s.rules (c / 4096) (c % 4096) (omega arith) behind (ask mode) is refl z)
 
     same : effect_of s c behind ≡ tells (good (answers mode q s.rules)) s.rules
     same =
-        does_act s.rules behind (command_in (c ∷ behind)) z ∙ ap (λ (a : Act). acts a s.rules (command_in (c ∷ behind)).number q) act
+        acting s.rules (c / 4096) (c % 4096) (omega arith) behind (ask mode) is z
         ∙ ap (λ (m : Mode). tells (good (answers m q s.rules)) s.rules) (mode_is mode)
 
     there : length (answers mode q s.rules) < s.room

@@ -1,15 +1,16 @@
--- The promises of the calls in the reference's numbers, where a call below answers an enum or a bool.
-use Rattle.std.specs.Prelude.{◌≡◌, List, ℕ}
+-- The promises of the calls in the reference's numbers, where a call below answers a Result or a bool.
+use Rattle.std.specs.Prelude.{◌≡◌, List, ℕ, Result}
 use Rattle.std.proofs.Common.{sym, ap, ◌∙◌}
-use Rattle.names.specs.Calls.{Enters, refusal_of_entry, number_of_entry, PartOf, refusal_of_part, start_of_part, size_of_part}
 use Rattle.names.specs.declared.Entry.{Entry}
 use Rattle.names.specs.declared.Part.{Part}
+use Rattle.names.specs.declared.refusal.Refusal.{Refusal}
+use Rattle.names.specs.Calls.{Enters, refusal_of_entry, number_of_entry, PartOf, refusal_of_part, start_of_part, size_of_part}
 use Rattle.names.specs.Once.{enters_once, part_once}
 use Rattle.book.specs.Memory.{Passing}
 
 -- The promise of `cf_name_enter`: the numbers of an answer that `enter` gives, and the table after it.
 pub record EntersNumbers (before name : List ℕ) (refusal number : ℕ) (after : List ℕ) : Type 0 where
-  pub answer : Entry
+  pub answer : Result Entry Refusal
   pub enters : Enters before name answer after
   pub refusal_is : refusal ≡ refusal_of_entry answer
   pub number_is : number ≡ number_of_entry answer
@@ -31,7 +32,7 @@ enters_numbers_once a b c d s u p q =
 
 -- The promise of `cf_name_of`: the numbers of the answer that `part_of` gives.
 pub record PartNumbers (table : List ℕ) (number refusal start size : ℕ) : Type 0 where
-  pub part : Part
+  pub part : Result Part Refusal
   pub stands : PartOf table number part
   pub refusal_is : refusal ≡ refusal_of_part part
   pub start_is : start ≡ start_of_part part

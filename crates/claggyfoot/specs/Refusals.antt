@@ -1,32 +1,33 @@
 -- Why the refusal table holds: each refusal comes exactly when its condition and the order say so.
-use Rattle.std.specs.Prelude.{◌≡◌, refl, ◌⊎◌, ◌↔◌, List, [], ◌∷◌, Bool, true, false, ℕ, zero, suc, ◌-◌, ◌/◌, ◌%◌, ◌≤◌, ◌<◌, leb, ltb, length, take, drop}
+use Rattle.std.specs.Prelude.{◌≡◌, refl, ◌⊎◌, ◌↔◌, List, [], ◌∷◌, Bool, true, false, ℕ, zero, suc, ◌-◌, ◌/◌, ◌%◌, ◌≤◌, ◌<◌, leb, ltb, length, take, drop, Option, Some, None, Result, Ok, Err}
 use Rattle.std.proofs.Common.{sym, ap, ap₂, ◌∙◌, subst, inl, inr, arith, ltb-true, leb-true, leb-false, lt-ltb, le-leb, length-drop}
 use Rattle.std.proofs.Math.Decide.{ℕ_discrete, dec_lt}
 use Rattle.std.proofs.lemmas.Bool.{lt-leb}
 use Rattle.deciding.specs.Deciding.{pick, true_not_false}
 use Rattle.layout.specs.Layout.{rules_limit, nodes_limit}
 use Rattle.term.specs.Reading.{read_term}
-use Rattle.term.specs.declared.reading.Reading.TheVariants.{Whole}
-use Rattle.book.specs.declared.Added.{Added}
-use Rattle.book.specs.declared.Added.TheVariants.{Taken, HeldAlready, BookFull, NoNodes}
+use Rattle.book.specs.declared.NotAdded.{NotAdded}
+use Rattle.book.specs.declared.NotAdded.TheVariants.{HeldAlready, BookFull, NoNodes}
 use Rattle.book.specs.Rules.{Rule, plain, Held, nothing, rule, Rules, is_held, with_rule, rule_count, nodes_of, refusal_of_add, judged, removal, refusal_of_remove}
 use Rattle.commands.specs.declared.kinds.Act.{Act}
-use Rattle.commands.specs.declared.kinds.Act.TheVariants.{Unknown, Add, Remove, Ask, Show, Room}
+use Rattle.commands.specs.declared.kinds.Act.TheVariants.{Add, Remove, Ask, Show, Room}
 use Rattle.commands.specs.declared.kinds.Kind.{Kind}
 use Rattle.commands.specs.declared.reader.Command.{Command}
-use Rattle.commands.specs.Kinds.{kind_at, about_term, about_rule, changes_book, term_is, changes_below_2}
-use Rattle.commands.specs.Commands.{command_with, command_from, command_in}
+use Rattle.commands.specs.declared.reader.Refusal.{Refusal}
+use Rattle.commands.specs.Kinds.{kind_at, act_of, about_term, about_rule, changes_book, with_act, term_is, changes_below_2}
+use Rattle.commands.specs.Commands.{command_from, command_of, command_refusal, command_size}
 use Rattle.commands.specs.Laws.{right_number}
 use Rattle.commands.proofs.Laws.{whole_read, plain_read, act_is, number_is, stop_range, read_of}
 use Rattle.batch.specs.Effects.{Effect, change_of, change_at, shown, acts, does}
 use Rattle.batch.specs.Run.{Outcome, is_going_on, run}
-use Rattle.batch.specs.Laws.{does_stop, does_act, any_effect, run_none, run_10, run_stops, run_goes_on}
+use Rattle.batch.specs.Laws.{does_act, any_effect, run_none, run_10}
+use Rattle.claggyfoot.specs.Stages.{read_on, stop_tells, stops_with, goes_on_by}
 
 -- ---- what the book says: refusals 6, 8 and 9 of an add, 7 of a remove and a show
 
 -- three tests, the first that holds decides
 abbrev chosen : (held full over : Bool) → ℕ
-chosen held full over = refusal_of_add (pick held HeldAlready (pick full BookFull (pick over NoNodes Taken)))
+chosen held full over = refusal_of_add (pick held (Err HeldAlready) (pick full (Err BookFull) (pick over (Err NoNodes) (Ok tt))))
 
 is_6 : (a b c : Bool) → chosen a b c ≡ 6 → a ≡ true
 is_6 true b c e = refl
@@ -112,11 +113,11 @@ seven_shown (rule r) = (λ e. absurd (omega arith), λ e. absurd (let z : ◌≡
 
 -- ---- at a command: refusals 6 to 9
 
-add_number : (a : Added) (r : ℕ) → refusal_of_add a ≡ r → ¬ (r ≡ 7)
-add_number Taken r e z = omega arith
-add_number HeldAlready r e z = omega arith
-add_number BookFull r e z = omega arith
-add_number NoNodes r e z = omega arith
+add_number : (a : Result (Unit {0}) NotAdded) (r : ℕ) → refusal_of_add a ≡ r → ¬ (r ≡ 7)
+add_number (Ok x) r e z = omega arith
+add_number (Err HeldAlready) r e z = omega arith
+add_number (Err BookFull) r e z = omega arith
+add_number (Err NoNodes) r e z = omega arith
 
 removal_number : (h : Held) → (refusal_of_remove (removal h) ≡ 0) ⊎ (refusal_of_remove (removal h) ≡ 7)
 removal_number nothing = inr refl
@@ -131,83 +132,116 @@ other_number x r e (inl z) h n = absurd (omega arith)
 other_number x r e (inr z) h n = absurd (n (sym e ∙ z))
 
 -- An add whose term was read, with so many cells; a remove or a show.
-abbrev pub AddsTerm : Kind → List ℕ → (size : ℕ) → Type 0
-AddsTerm k behind size = (k.act ≡ Add) × (read_term behind ≡ Whole size)
+abbrev pub AddsTerm : Option Kind → List ℕ → (size : ℕ) → Type 0
+AddsTerm k behind size = (act_of k ≡ Some Add) × (read_term behind ≡ Ok size)
 
-abbrev pub NamesRule : Kind → Type 0
-NamesRule k = (k.act ≡ Remove) ⊎ (k.act ≡ Show)
+abbrev pub NamesRule : Option Kind → Type 0
+NamesRule k = (act_of k ≡ Some Remove) ⊎ (act_of k ≡ Some Show)
+
+-- the row that has an act
+row_of : (k : Option Kind) (a : Act) → act_of k ≡ Some a → (r : Kind) × (k ≡ Some r) × (r.act ≡ a)
+row_of None a e = absurd cc
+row_of (Some r) a e = (r, refl, cc)
 
 module _ (rules : Rules) (kind number : ℕ) (low : number < 4096) (behind : List ℕ) where
-  abbrev row : Kind
+  abbrev row : Option Kind
   row = kind_at kind
 
-  abbrev here : Command
+  abbrev here : Result Command Refusal
   here = command_from kind number behind
 
   abbrev effect : Effect
   effect = does rules behind here
 
   abbrev term : List ℕ
-  term = take here.size behind
+  term = take (command_size here) behind
 
   abbrev judgement : ℕ
   judgement = refusal_of_add (judged rules number (plain term))
 
   -- it goes on, and does what the act of its kind does; or it stops, and tells with which number
-  goes : here.stop ≡ 0 → effect ≡ acts row.act rules number term
-  goes z = does_act rules behind here z ∙ ap₂ (λ (a : Act) (k : ℕ). acts a rules k term) (act_is row number behind) (number_is row number behind)
+  goes : command_refusal here ≡ 0 → (a : Act) × (act_of row ≡ Some a) × (effect ≡ acts a rules number term)
+  goes z =
+      let x = read_on here z in
+      let size : x.0.size ≡ command_size here = sym (ap command_size x.1) in (
+        x.0.act,
+        act_is row number behind x.0 x.1,
+        does_act rules behind here x.0 x.1
+            ∙ ap₂ (λ (k n : ℕ). acts x.0.act rules k (take n behind)) (number_is row number behind x.0 x.1) size,
+      )
 
-  stopped : ¬ (here.stop ≡ 0) → (effect.answer.refusal ≡ here.stop) × (2 ≤ here.stop) × (here.stop ≤ 5)
-  stopped n = go (stop_range row number behind)
+  stopped : ¬ (command_refusal here ≡ 0) → (effect.answer.refusal ≡ command_refusal here) × (2 ≤ command_refusal here) × (command_refusal here ≤ 5)
+  stopped n = go (stop_range here)
     where
-      go : (here.stop ≡ 0) ⊎ ((2 ≤ here.stop) × (here.stop ≤ 5)) → (effect.answer.refusal ≡ here.stop) × (2 ≤ here.stop) × (here.stop ≤ 5)
+      go : (command_refusal here ≡ 0) ⊎ ((2 ≤ command_refusal here) × (command_refusal here ≤ 5))
+          → (effect.answer.refusal ≡ command_refusal here) × (2 ≤ command_refusal here) × (command_refusal here ≤ 5)
       go (inl z) = absurd (n z)
-      go (inr x) = (ap (λ (e : Effect). e.answer.refusal) (does_stop rules behind here n), x.0, x.1)
+      go (inr x) = (ap (λ (e : Effect). e.answer.refusal) (stop_tells rules behind here n), x.0, x.1)
 
   -- after any other record than one of 2 to 5 the batch goes on
-  pub goes_on_with : (r : ℕ) → ¬ ((2 ≤ r) × (r ≤ 5)) → effect.answer.refusal ≡ r → here.stop ≡ 0
-  goes_on_with r h e = go (ℕ_discrete here.stop 0)
+  pub goes_on_with : (r : ℕ) → ¬ ((2 ≤ r) × (r ≤ 5)) → effect.answer.refusal ≡ r → command_refusal here ≡ 0
+  goes_on_with r h e = go (ℕ_discrete (command_refusal here) 0)
     where
-      go : Dec (here.stop ≡ 0) → here.stop ≡ 0
+      go : Dec (command_refusal here ≡ 0) → command_refusal here ≡ 0
       go (yes z) = z
       go (no n) = absurd (let x = stopped n in let a = x.0 in let b = x.1 in let c = x.2 in h (omega arith, omega arith))
 
+  -- a term that was read is whole
+  pub read_whole : (a : Act) → act_of row ≡ Some a → about_term a ≡ true → command_refusal here ≡ 0 → read_term behind ≡ Ok (command_size here)
+  read_whole a e f z =
+      let x = read_on here z in
+      let about : about_term x.0.act ≡ true = ap (with_act about_term) (sym (act_is row number behind x.0 x.1) ∙ e) ∙ f in
+      (read_of kind number behind low x.0 x.1).whole about ∙ ap Ok (sym (ap command_size x.1))
+
   -- so a refusal from 6 on is one of its act
-  by_act : (r : ℕ) → 6 ≤ r → effect.answer.refusal ≡ r → (here.stop ≡ 0) × ((acts row.act rules number term).answer.refusal ≡ r)
-  by_act r h e = let z = goes_on_with r (λ x. absurd (let b = x.1 in omega arith)) e in (z, sym (ap (λ (x : Effect). x.answer.refusal) (goes z)) ∙ e)
+  by_act : (r : ℕ) → 6 ≤ r → effect.answer.refusal ≡ r
+      → (command_refusal here ≡ 0) × ((a : Act) × (act_of row ≡ Some a) × ((acts a rules number term).answer.refusal ≡ r))
+  by_act r h e =
+      let z = goes_on_with r (λ x. absurd (let b = x.1 in omega arith)) e in
+      let x = goes z in
+      (z, (x.0, x.1, sym (ap (λ (y : Effect). y.answer.refusal) x.2) ∙ e))
 
   -- an add that was read
-  pub is_added : (size : ℕ) → AddsTerm row behind size → here ≡ command_with row number size 0
-  is_added size x = whole_read row number behind size (term_is kind ∙ ap about_term x.0, right_number kind number (ap about_rule x.0)) x.1
+  pub is_added : (size : ℕ) → AddsTerm row behind size → here ≡ Ok (record { act = Add; number = number; size = size })
+  is_added size x =
+      let r = row_of row Add x.0 in
+      whole_read row number behind r.0 size r.1
+      (term_is kind ∙ ap (with_act about_term) x.0, right_number kind number (ap (with_act about_rule) x.0)) x.1
+      ∙ ap (λ (a : Act). Ok (record { act = a; number = number; size = size })) r.2
 
   -- a remove or a show has no term to be at fault
-  is_named : (act : Act) → row.act ≡ act → about_term act ≡ false → about_rule act ≡ true → here.stop ≡ 0
-  is_named act e f g = ap (λ (c : Command). c.stop) (plain_read row number behind (term_is kind ∙ ap about_term e ∙ f) (right_number kind number (ap about_rule e ∙ g)))
+  is_named : (act : Act) → act_of row ≡ Some act → about_term act ≡ false → about_rule act ≡ true → command_refusal here ≡ 0
+  is_named act e f g =
+      let r = row_of row act e in
+      ap command_refusal
+      (plain_read row number behind r.0 r.1 (term_is kind ∙ ap (with_act about_term) e ∙ f) (right_number kind number (ap (with_act about_rule) e ∙ g)))
 
-  acting : (act : Act) → row.act ≡ act → here.stop ≡ 0 → effect ≡ acts act rules number term
-  acting act e z = goes z ∙ ap (λ (a : Act). acts a rules number term) e
+  pub acting : (act : Act) → act_of row ≡ Some act → command_refusal here ≡ 0 → effect ≡ acts act rules number term
+  acting act e z =
+      let x = goes z in
+      let same : x.0 ≡ act = (let y = sym x.1 ∙ e in cc) in
+      x.2 ∙ ap (λ (a : Act). acts a rules number term) same
 
   -- 6, 8 and 9 are given for an add that was read, as the rules judge it
-  pub add_refused : (r : ℕ) → 6 ≤ r → ¬ (r ≡ 7) → effect.answer.refusal ≡ r ↔ (AddsTerm row behind here.size × (judgement ≡ r))
-  add_refused r h n = (λ e. let x = by_act r h e in to row.act refl x.0 x.1, λ x. of x.0 x.1)
+  pub add_refused : (r : ℕ) → 6 ≤ r → ¬ (r ≡ 7) → effect.answer.refusal ≡ r ↔ (AddsTerm row behind (command_size here) × (judgement ≡ r))
+  add_refused r h n = (λ e. let x = by_act r h e in to x.1.0 x.1.1 x.0 x.1.2, λ x. of x.0 x.1)
     where
-      to : (a : Act) → row.act ≡ a → here.stop ≡ 0 → (acts a rules number term).answer.refusal ≡ r → AddsTerm row behind here.size × (judgement ≡ r)
-      to Unknown q z e = absurd (omega arith)
-      to Add q z e = ((q, (read_of kind number behind low).whole z (ap about_term (act_is row number behind ∙ q))), e)
+      to : (a : Act) → act_of row ≡ Some a → command_refusal here ≡ 0 → (acts a rules number term).answer.refusal ≡ r
+          → AddsTerm row behind (command_size here) × (judgement ≡ r)
+      to Add q z e = ((q, read_whole Add q refl z), e)
       to Remove q z e = other_number (refusal_of_remove (removal (rules number))) r e (removal_number (rules number)) h n
       to (Ask fq fr) q z e = absurd (omega arith)
       to Show q z e = other_number (shown (rules number)).refusal r e (shown_number (rules number)) h n
       to Room q z e = absurd (omega arith)
 
-      of : AddsTerm row behind here.size → judgement ≡ r → effect.answer.refusal ≡ r
-      of x j = ap (λ (e : Effect). e.answer.refusal) (acting Add x.0 (ap (λ (c : Command). c.stop) (is_added here.size x))) ∙ j
+      of : AddsTerm row behind (command_size here) → judgement ≡ r → effect.answer.refusal ≡ r
+      of x j = ap (λ (e : Effect). e.answer.refusal) (acting Add x.0 (ap command_refusal (is_added (command_size here) x))) ∙ j
 
   -- 7 is given for a remove or a show whose number isn't held
   pub not_held : effect.answer.refusal ≡ 7 ↔ (NamesRule row × (rules number ≡ nothing))
-  not_held = (λ e. to row.act refl (by_act 7 (omega arith) e).1, λ x. of x.0 x.1)
+  not_held = (λ e. let x = (by_act 7 (omega arith) e).1 in to x.0 x.1 x.2, λ x. of x.0 x.1)
     where
-      to : (a : Act) → row.act ≡ a → (acts a rules number term).answer.refusal ≡ 7 → NamesRule row × (rules number ≡ nothing)
-      to Unknown q e = absurd (omega arith)
+      to : (a : Act) → act_of row ≡ Some a → (acts a rules number term).answer.refusal ≡ 7 → NamesRule row × (rules number ≡ nothing)
       to Add q e = absurd (add_number (judged rules number (plain term)) 7 e refl)
       to Remove q e = (inl q, (seven_removed (rules number)).0 e)
       to (Ask fq fr) q e = absurd (omega arith)
@@ -220,37 +254,37 @@ module _ (rules : Rules) (kind number : ℕ) (low : number < 4096) (behind : Lis
 
   -- only an add or a remove changes anything
   pub told_only : 2 ≤ kind → effect.changes ≡ []
-  told_only h = any_effect rules behind here (λ e. e.changes ≡ [])
-      (subst (λ (a : Act). (acts a rules here.number term).changes ≡ []) (sym (act_is row number behind)) (go row.act refl)) refl
+  told_only h = by_stop (ℕ_discrete (command_refusal here) 0)
     where
-      neither : changes_book row.act ≡ true → ⊥
-      neither e = let l = changes_below_2 kind e in omega arith
+      neither : {a : Act} → act_of row ≡ Some a → changes_book a ≡ true → ⊥
+      neither q e = let l = changes_below_2 kind (ap (with_act changes_book) q ∙ e) in omega arith
 
-      go : (a : Act) → row.act ≡ a → (acts a rules here.number term).changes ≡ []
-      go Unknown q = refl
-      go Add q = absurd (neither (ap changes_book q))
-      go Remove q = absurd (neither (ap changes_book q))
+      go : (a : Act) → act_of row ≡ Some a → (acts a rules number term).changes ≡ []
+      go Add q = absurd (neither q refl)
+      go Remove q = absurd (neither q refl)
       go (Ask fq fr) q = refl
       go Show q = refl
       go Room q = refl
 
+      by_stop : Dec (command_refusal here ≡ 0) → effect.changes ≡ []
+      by_stop (yes z) = let x = goes z in ap (λ (e : Effect). e.changes) x.2 ∙ go x.0 x.1
+      by_stop (no n) = ap (λ (e : Effect). e.changes) (stop_tells rules behind here n)
+
 -- ---- a refused command changes nothing, and only an add or a remove changes anything
 
-add_changes : (a : Added) (k : ℕ) (r : Rule) → ¬ (refusal_of_add a ≡ 0) → change_of a k r ≡ []
-add_changes Taken k r n = absurd (n refl)
-add_changes HeldAlready k r n = refl
-add_changes BookFull k r n = refl
-add_changes NoNodes k r n = refl
+add_changes : (a : Result (Unit {0}) NotAdded) (k : ℕ) (r : Rule) → ¬ (refusal_of_add a ≡ 0) → change_of a k r ≡ []
+add_changes (Ok x) k r n = absurd (n refl)
+add_changes (Err why) k r n = refl
 
 remove_changes : (k : ℕ) (h : Held) → ¬ (refusal_of_remove (removal h) ≡ 0) → change_at k h ≡ []
 remove_changes k nothing n = refl
 remove_changes k (rule r) n = absurd (n refl)
 
-pub refused_stays : (rules : Rules) (behind : List ℕ) (c : Command) → ¬ ((does rules behind c).answer.refusal ≡ 0) → (does rules behind c).changes ≡ []
-refused_stays rules behind c = any_effect rules behind c (λ e. ¬ (e.answer.refusal ≡ 0) → e.changes ≡ []) (go c.act c.number (take c.size behind)) (λ n. refl)
+pub refused_stays : (rules : Rules) (behind : List ℕ) (x : Result Command Refusal) → ¬ ((does rules behind x).answer.refusal ≡ 0) → (does rules behind x).changes ≡ []
+refused_stays rules behind x = any_effect rules behind x (λ e. ¬ (e.answer.refusal ≡ 0) → e.changes ≡ [])
+    (λ c. go c.act c.number (take c.size behind)) (λ why n. refl)
   where
     go : (a : Act) (k : ℕ) (t : List ℕ) → ¬ ((acts a rules k t).answer.refusal ≡ 0) → (acts a rules k t).changes ≡ []
-    go Unknown k t n = refl
     go Add k t n = add_changes (judged rules k (plain t)) k (plain t) n
     go Remove k t n = remove_changes k (rules k) n
     go (Ask fq fr) k t n = refl
@@ -278,33 +312,37 @@ ends_so zero rules [] room h = none_left rules room
 ends_so zero rules (c ∷ behind) room h = absurd (omega arith)
 ends_so (suc fuel) rules [] room h = none_left rules room
 ends_so (suc fuel) rules (c ∷ behind) room h = go (λ r cells k l. ends_so fuel r cells k l) (dec_lt (length e.answer.cells) room)
-    (stop_range (kind_at (c / 4096)) (c % 4096) behind)
+    (stop_range (command_of c behind))
   where
-    x : Command
-    x = command_in (c ∷ behind)
+    x : Result Command Refusal
+    x = command_of c behind
 
     e : Effect
     e = does rules behind x
 
-    size : x.size ≤ length behind
-    size = (read_of (c / 4096) (c % 4096) behind (omega arith)).inside
+    size : command_size x ≤ length behind
+    size = within x refl
+      where
+        within : (y : Result Command Refusal) → x ≡ y → command_size y ≤ length behind
+        within (Ok first) q = (read_of (c / 4096) (c % 4096) behind (omega arith) first q).inside
+        within (Err why) q = omega arith
 
-    left : length (drop x.size behind) ≡ length behind - x.size
-    left = length-drop x.size behind
+    left : length (drop (command_size x) behind) ≡ length behind - command_size x
+    left = length-drop (command_size x) behind
 
-    more : Ends (run e.rules (drop x.size behind) (room - suc (length e.answer.cells))) (length (drop x.size behind))
-        → Ends (is_going_on (suc x.size) e (run e.rules (drop x.size behind) (room - suc (length e.answer.cells)))) (suc (length behind))
+    more : Ends (run e.rules (drop (command_size x) behind) (room - suc (length e.answer.cells))) (length (drop (command_size x) behind))
+        → Ends (is_going_on (suc (command_size x)) e (run e.rules (drop (command_size x) behind) (room - suc (length e.answer.cells)))) (suc (length behind))
     more r = record { number = r.number; all = λ z. let u = r.all z in omega (arith, left, size); not_all = λ z. let u = r.not_all z in omega (arith, left, size) }
 
     go : ((r : Rules) (cells : List ℕ) (k : ℕ) → length cells ≤ fuel → Ends (run r cells k) (length cells)) → Dec (length e.answer.cells < room)
-        → (x.stop ≡ 0) ⊎ ((2 ≤ x.stop) × (x.stop ≤ 5)) → Ends (run rules (c ∷ behind) room) (suc (length behind))
+        → (command_refusal x ≡ 0) ⊎ ((2 ≤ command_refusal x) × (command_refusal x ≤ 5)) → Ends (run rules (c ∷ behind) room) (suc (length behind))
     go ih (no n) s = subst (λ (o : Outcome). Ends o (suc (length behind))) (sym (run_10 rules c behind room (omega arith)))
         (record { number = inr (inr refl); all = λ z. absurd (omega arith); not_all = λ z. omega arith })
     go ih (yes l) (inr s) = subst (λ (o : Outcome). Ends o (suc (length behind)))
-        (sym (run_stops rules c behind room l (λ z. absurd (let a = s.0 in omega arith))))
+        (sym (stops_with rules c behind room l (λ z. absurd (let a = s.0 in omega arith))))
         (record { number = inr (inl s); all = λ z. absurd (let a = s.0 in omega arith); not_all = λ z. omega arith })
-    go ih (yes l) (inl s) = subst (λ (o : Outcome). Ends o (suc (length behind))) (sym (run_goes_on rules c behind room l s))
-        (more (ih e.rules (drop x.size behind) (room - suc (length e.answer.cells)) (omega (arith, left))))
+    go ih (yes l) (inl s) = subst (λ (o : Outcome). Ends o (suc (length behind))) (sym (goes_on_by rules c behind room l s))
+        (more (ih e.rules (drop (command_size x) behind) (room - suc (length e.answer.cells)) (omega (arith, left))))
 
 pub batch_ends : (rules : Rules) (cells : List ℕ) (room : ℕ) → Ends (run rules cells room) (length cells)
 batch_ends rules cells room = ends_so (length cells) rules cells room (omega arith)

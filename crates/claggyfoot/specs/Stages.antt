@@ -1,21 +1,52 @@
 -- The stages of a batch: where it stands before each command that it comes to, and which memory is there.
-use Rattle.std.specs.Prelude.{◌≡◌, refl, List, [], ◌∷◌, ◌++◌, Bool, true, false, ℕ, suc, ◌+◌, ◌-◌, ◌<◌, eqb, length, take, drop}
+use Rattle.std.specs.Prelude.{◌≡◌, refl, List, [], ◌∷◌, ◌++◌, Bool, true, false, ℕ, suc, ◌+◌, ◌-◌, ◌<◌, eqb, length, take, drop, Result, Ok, Err}
 use Rattle.std.proofs.Common.{sym, ap, ◌∙◌, subst, append_assoc, arith, eqb-true}
 use Rattle.std.proofs.Math.Path.{fun_ext}
 use Rattle.deciding.specs.Deciding.{pick}
-use Rattle.book.specs.declared.Added.{Added}
-use Rattle.book.specs.declared.Added.TheVariants.{Taken, HeldAlready, BookFull, NoNodes}
+use Rattle.book.specs.declared.NotAdded.{NotAdded}
 use Rattle.book.specs.Rules.{Rule, plain, Held, nothing, rule, Rules, without_rule, judged, after}
 use Rattle.book.specs.Memory.{Passing, rules_in}
-use Rattle.commands.specs.Records.{Record}
+use Rattle.commands.specs.Records.{Record, bare}
 use Rattle.commands.specs.declared.reader.Command.{Command}
+use Rattle.commands.specs.declared.reader.Refusal.{Refusal}
 use Rattle.commands.specs.declared.kinds.Act.{Act}
-use Rattle.commands.specs.declared.kinds.Act.TheVariants.{Unknown, Add, Remove, Ask, Show, Room}
-use Rattle.commands.specs.Commands.{command_in}
-use Rattle.batch.specs.Effects.{Change, changed, change_of, change_at, Effect, acts, does}
-use Rattle.batch.specs.Run.{Outcome, run}
+use Rattle.commands.specs.declared.kinds.Act.TheVariants.{Add, Remove, Ask, Show, Room}
+use Rattle.commands.specs.Commands.{command_of, command_refusal, command_size}
+use Rattle.commands.specs.Laws.{refusal_low}
+use Rattle.batch.specs.Effects.{Change, changed, change_of, change_at, Effect, tells, acts, does}
+use Rattle.batch.specs.Run.{Outcome, ends_with, is_going_on, run}
 use Rattle.batch.specs.Promises.{Changes, Along, none, then}
-use Rattle.batch.specs.Laws.{any_effect, rest, run_goes_on}
+use Rattle.batch.specs.Laws.{does_stop, any_effect, rest, run_stops, run_goes_on}
+
+-- ---- a command by its refusal number: it was read and the batch goes on, or it is refused and stops the batch
+
+pub read_on : (x : Result Command Refusal) → command_refusal x ≡ 0 → (c : Command) × (x ≡ Ok c)
+read_on (Ok c) e = (c, refl)
+read_on (Err why) e = absurd (let l = refusal_low why in omega arith)
+
+pub read_off : (x : Result Command Refusal) → ¬ (command_refusal x ≡ 0) → (why : Refusal) × (x ≡ Err why)
+read_off (Ok c) n = absurd (n refl)
+read_off (Err why) n = (why, refl)
+
+pub stop_tells : (rules : Rules) (behind : List ℕ) (x : Result Command Refusal) → ¬ (command_refusal x ≡ 0) → does rules behind x ≡ tells (bare (command_refusal x)) rules
+stop_tells rules behind x n =
+    let w = read_off x n in does_stop rules behind x w.0 w.1 ∙ ap (λ (r : Result Command Refusal). tells (bare (command_refusal r)) rules) (sym w.1)
+
+module _ (rules : Rules) (c : ℕ) (behind : List ℕ) (room : ℕ) where
+  abbrev effect : Effect
+  effect = does rules behind (command_of c behind)
+
+  pub stops_with : length effect.answer.cells < room → ¬ (command_refusal (command_of c behind) ≡ 0) → run rules (c ∷ behind) room ≡ ends_with (command_refusal (command_of c behind)) effect
+  stops_with h n =
+      let w = read_off (command_of c behind) n in
+      run_stops rules c behind room w.0 h w.1 ∙ ap (λ (r : Result Command Refusal). ends_with (command_refusal r) effect) (sym w.1)
+
+  pub goes_on_by : length effect.answer.cells < room → command_refusal (command_of c behind) ≡ 0
+      → run rules (c ∷ behind) room ≡ is_going_on (suc (command_size (command_of c behind))) effect (rest rules c behind room)
+  goes_on_by h z =
+      let w = read_on (command_of c behind) z in
+      run_goes_on rules c behind room w.0 h w.1
+      ∙ ap (λ (r : Result Command Refusal). is_going_on (suc (command_size r)) effect (rest rules c behind room)) (sym w.1)
 
 -- Where a batch stands before a command: the cells used and the records written so far, the changes of the rules so far, the rules held, the cells
 -- to come and the room that is left.
@@ -44,9 +75,9 @@ onward s size e behind = record {
 -- The commands of a batch in turn: it begins, and it goes on after each command that doesn't stop it and whose record has room.
 pub data Reaches (rules : Rules) (cells : List ℕ) (room : ℕ) : Stage → Type 0 where
   start : Reaches rules cells room (begin rules cells room)
-  next : {s : Stage} {c : ℕ} {behind : List ℕ} → Reaches rules cells room s → s.cells ≡ c ∷ behind → (command_in (c ∷ behind)).stop ≡ 0
-      → length (does s.rules behind (command_in (c ∷ behind))).answer.cells < s.room
-      → Reaches rules cells room (onward s (command_in (c ∷ behind)).size (does s.rules behind (command_in (c ∷ behind))) behind)
+  next : {s : Stage} {c : ℕ} {behind : List ℕ} → Reaches rules cells room s → s.cells ≡ c ∷ behind → command_refusal (command_of c behind) ≡ 0
+      → length (does s.rules behind (command_of c behind)).answer.cells < s.room
+      → Reaches rules cells room (onward s (command_size (command_of c behind)) (does s.rules behind (command_of c behind)) behind)
 
 -- ---- what a batch comes to, from a stage on
 
@@ -61,10 +92,10 @@ same_outcome stop rules {u} {v} {rs} {qs} {cs} {ds} e f g = cc
 pub reached : {rules : Rules} {cells : List ℕ} {room : ℕ} {s : Stage} → Reaches rules cells room s → run rules cells room ≡ from s (run s.rules s.cells s.room)
 reached {rules} {cells} {room} start = let o = run rules cells room in same_outcome o.stop o.rules (let e : o.used ≡ 0 + o.used = omega arith in e) refl refl
 reached (next {s} {c} {behind} before is e l) =
-    let x = does s.rules behind (command_in (c ∷ behind)) in
-    let size = (command_in (c ∷ behind)).size in
+    let x = does s.rules behind (command_of c behind) in
+    let size = command_size (command_of c behind) in
     let o = rest s.rules c behind s.room in
-    reached before ∙ ap (λ (z : List ℕ). from s (run s.rules z s.room)) is ∙ ap (from s) (run_goes_on s.rules c behind s.room l e)
+    reached before ∙ ap (λ (z : List ℕ). from s (run s.rules z s.room)) is ∙ ap (from s) (goes_on_by s.rules c behind s.room l e)
     ∙ same_outcome o.stop o.rules (let u : s.used + (suc size + o.used) ≡ s.used + suc size + o.used = omega arith in u)
     (sym (append_assoc s.records (x.answer ∷ []) o.records)) (sym (append_assoc s.changes x.changes o.changes))
 
@@ -86,36 +117,33 @@ none_removed rules k e = fun_ext (λ j. go j (eqb j k) refl)
     go j true q = sym e ∙ ap rules (sym (eqb-true j k q))
     go j false q = refl
 
-add_applied : (a : Added) (rules : Rules) (k : ℕ) (r : Rule) → after a rules k r ≡ applied (change_of a k r) rules
-add_applied Taken rules k r = refl
-add_applied HeldAlready rules k r = refl
-add_applied BookFull rules k r = refl
-add_applied NoNodes rules k r = refl
+add_applied : (a : Result (Unit {0}) NotAdded) (rules : Rules) (k : ℕ) (r : Rule) → after a rules k r ≡ applied (change_of a k r) rules
+add_applied (Ok x) rules k r = refl
+add_applied (Err why) rules k r = refl
 
 remove_applied : (rules : Rules) (k : ℕ) (h : Held) → rules k ≡ h → without_rule rules k ≡ applied (change_at k h) rules
 remove_applied rules k nothing e = none_removed rules k e
 remove_applied rules k (rule r) e = refl
 
 -- What a command makes of the rules are its changes.
-pub does_applied : (rules : Rules) (behind : List ℕ) (c : Command) → (does rules behind c).rules ≡ applied (does rules behind c).changes rules
-does_applied rules behind c = any_effect rules behind c (λ e. e.rules ≡ applied e.changes rules) (go c.act c.number (take c.size behind)) refl
+pub does_applied : (rules : Rules) (behind : List ℕ) (x : Result Command Refusal) → (does rules behind x).rules ≡ applied (does rules behind x).changes rules
+does_applied rules behind x = any_effect rules behind x (λ e. e.rules ≡ applied e.changes rules) (λ c. go c.act c.number (take c.size behind)) (λ why. refl)
   where
     go : (a : Act) (k : ℕ) (t : List ℕ) → (acts a rules k t).rules ≡ applied (acts a rules k t).changes rules
-    go Unknown k t = refl
     go Add k t = add_applied (judged rules k (plain t)) rules k (plain t)
     go Remove k t = remove_applied rules k (rules k) refl
     go (Ask fq fr) k t = refl
     go Show k t = refl
     go Room k t = refl
 
-pub does_rules : (rules : Rules) (behind : List ℕ) (c : Command) → (does rules behind c).changes ≡ [] → (does rules behind c).rules ≡ rules
-does_rules rules behind c e = does_applied rules behind c ∙ ap (λ (cs : List Change). applied cs rules) e
+pub does_rules : (rules : Rules) (behind : List ℕ) (x : Result Command Refusal) → (does rules behind x).changes ≡ [] → (does rules behind x).rules ≡ rules
+does_rules rules behind x e = does_applied rules behind x ∙ ap (λ (cs : List Change). applied cs rules) e
 
 stage_rules : {rules : Rules} {cells : List ℕ} {room : ℕ} {s : Stage} → Reaches rules cells room s → s.rules ≡ applied s.changes rules
 stage_rules start = refl
 stage_rules {rules} (next {s} {c} {behind} before is e l) =
-    let x = does s.rules behind (command_in (c ∷ behind)) in
-    does_applied s.rules behind (command_in (c ∷ behind)) ∙ ap (applied x.changes) (stage_rules before) ∙ sym (applied_on s.changes x.changes rules)
+    let x = does s.rules behind (command_of c behind) in
+    does_applied s.rules behind (command_of c behind) ∙ ap (applied x.changes) (stage_rules before) ∙ sym (applied_on s.changes x.changes rules)
 
 -- ---- the memory along the changes
 

@@ -1,11 +1,10 @@
 -- Exactly when reading a text refuses, read off its promise.
-use Rattle.std.specs.Prelude.{◌≡◌, ◌⊎◌, List, [], ◌++◌, ℕ, ◌+◌, ◌-◌, ◌*◌, ◌≤◌, ◌<◌, length, replicate, eqb}
+use Rattle.std.specs.Prelude.{◌≡◌, ◌⊎◌, List, [], ◌++◌, ℕ, ◌+◌, ◌-◌, ◌*◌, ◌≤◌, ◌<◌, length, replicate, eqb, Ok}
 use Rattle.std.proofs.Common.{sym, ap, ap₂, ◌∙◌, inl, inr, arith}
 use Rattle.deciding.specs.Deciding.{pick}
 use Rattle.names.specs.Table.{Holds, Passes, slots_of}
 use Rattle.names.specs.Once.{passes, names_once, free_once}
 use Rattle.term.specs.Reading.{read_term}
-use Rattle.term.specs.declared.reading.Reading.TheVariants.{Whole}
 use Rattle.text.specs.Text.{Answer, refused, read_text}
 use Rattle.text.specs.declared.TextRead.{TextRead}
 use Rattle.text.specs.Promises.{told, refused_read, table_of, Reads, no_table, has_read}
@@ -96,10 +95,10 @@ module _ {before text : List ℕ} {r : TextRead} {after : List ℕ} (call : Read
         (is ∙ ap told e, (answered names free h).1 ∙ ap (λ (x : Answer). table_of (length names + free) x.names) e)
 
     -- and its cells are one whole term
-    pub text_term : r.refusal ≡ 0 → read_term r.cells ≡ Whole r.size
+    pub text_term : r.refusal ≡ 0 → read_term r.cells ≡ Ok r.size
     text_term e =
         ap (λ (x : TextRead). read_term x.cells) is ∙ typed_whole names free text h.most (number e)
-        ∙ ap Whole (sym (ap (λ (x : TextRead). x.size) is))
+        ∙ ap Ok (sym (ap (λ (x : TextRead). x.size) is))
 
   pub refused_table : Exactly (r.refusal ≡ 1) (¬ (Passes before)) (Refused 1 0)
   refused_table = ((to call, λ f. ap (λ (x : TextRead). x.refusal) (from call f).0), from call)

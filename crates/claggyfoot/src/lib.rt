@@ -10,7 +10,10 @@ ghost use Rattle.text.specs.Promises.{Reads};
 ghost use Rattle.claggyfoot.specs.Numbers.{EntersNumbers, PartNumbers, ChecksNumber};
 
 use book::Book;
+use names::Entry;
 use text::TextRead;
+
+// C reads these three (include/claggyfoot.h), so a refusal is a number here.
 
 // What `cf_name_enter` answers: 0 and the number of the name's slot, or the refusal and 0.
 #[repr(C)]
@@ -38,22 +41,16 @@ pub struct BatchEnded {
     pub written: u64,
 }
 
-fn wide(n: usize) -> u64
-    ensures { result ≡ n }
-{
-    n as u64
-}
-
 // Enters a name.
 #[unsafe(no_mangle)]
 pub extern "C" fn cf_name_enter(table: &mut [u8], name: &[u8]) -> NameEntered
     ensures { EntersNumbers table.old name.now result.refusal result.number table.new }
 {
-    let entry = names::enter(table, name);
-    NameEntered {
-        refusal: names::entry_refusal(entry),
-        number: wide(names::entry_number(entry)),
-    }
+    let (refusal, number) = match names::enter(table, name) {
+        Ok(Entry::Held(slot) | Entry::New(slot)) => (0, slot as u64),
+        Err(refusal) => (u64::from(refusal), 0),
+    };
+    NameEntered { refusal, number }
 }
 
 // Where the name with a number stands.
@@ -61,11 +58,14 @@ pub extern "C" fn cf_name_enter(table: &mut [u8], name: &[u8]) -> NameEntered
 pub extern "C" fn cf_name_of(table: &[u8], number: u64) -> NamePlace
     ensures { PartNumbers table.now number result.refusal result.start result.length }
 {
-    let part = names::part_of(table, number as usize);
+    let (refusal, start, length) = match names::part_of(table, number as usize) {
+        Ok(part) => (0, part.start as u64, part.size as u64),
+        Err(refusal) => (u64::from(refusal), 0, 0),
+    };
     NamePlace {
-        refusal: names::part_refusal(part),
-        start: wide(names::part_start(part)),
-        length: wide(names::part_size(part)),
+        refusal,
+        start,
+        length,
     }
 }
 
@@ -82,7 +82,7 @@ pub extern "C" fn cf_text_read(table: &mut [u8], text: &[u8]) -> TextRead
 pub extern "C" fn cf_book_words() -> u64
     ensures { result ≡ book_words }
 {
-    wide(Book::WORDS)
+    Book::WORDS as u64
 }
 
 // Makes an empty book: 0, or 1 on a wrong length.
@@ -90,7 +90,7 @@ pub extern "C" fn cf_book_words() -> u64
 pub extern "C" fn cf_book_empty(book: &mut [u64]) -> u64
     ensures { Empties book.old book.new result }
 {
-    Book::empty(book)
+    Book::empty(book).err().map_or(0, u64::from)
 }
 
 // The check alone: 0 where the memory passes, else 1.
@@ -98,10 +98,7 @@ pub extern "C" fn cf_book_empty(book: &mut [u64]) -> u64
 pub extern "C" fn cf_book_passes(book: &[u64]) -> u64
     ensures { ChecksNumber book.now result }
 {
-    if passing::passes(book) {
-        return 0;
-    }
-    1
+    u64::from(!passing::passes(book))
 }
 
 // Runs a batch of commands.
@@ -111,8 +108,8 @@ pub extern "C" fn cf_batch(book: &mut [u64], cells: &[u16], out: &mut [u16]) -> 
 {
     let ended = batch::run(book, cells, out);
     BatchEnded {
-        stop: ended.stop,
-        used: wide(ended.used),
-        written: wide(ended.written),
+        stop: ended.stop.map_or(0, u64::from),
+        used: ended.used as u64,
+        written: ended.written as u64,
     }
 }

@@ -1,4 +1,5 @@
-// What C and Rust link: the static library. Each function calls that of `claggyfoot` with its name, and promises the same.
+// What C and Rust link: the static library. Each function calls that of `claggyfoot` with its name, and promises the same: the
+// interface for C is here, and the demands are theorems about a library.
 #![tactic(auto)]
 
 ghost use Rattle.std.specs.Prelude.{◌≡◌};

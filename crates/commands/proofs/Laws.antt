@@ -1,141 +1,154 @@
 -- Laws of what a command says, over any row: refusals 2 to 5 come exactly when the row, the number and the term call for them.
-use Rattle.std.specs.Prelude.{◌≡◌, ◌⊎◌, ◌↔◌, List, Bool, true, ℕ, ◌+◌, ◌/◌, ◌%◌, ◌≤◌, ◌<◌, length, get_or, drop}
+use Rattle.std.specs.Prelude.{◌≡◌, ◌⊎◌, ◌↔◌, List, Bool, true, ℕ, ◌+◌, ◌/◌, ◌%◌, ◌≤◌, ◌<◌, length, get_or, drop, Option, Some, None, Result, Ok, Err}
 use Rattle.std.proofs.Math.Path.{refl}
 use Rattle.std.proofs.Common.{sym, ap, ◌∙◌, subst, inl, inr, arith}
 use Rattle.std.proofs.Math.Bool.{false}
 use Rattle.deciding.specs.Deciding.{pick, true_not_false}
-use Rattle.term.specs.Reading.{read_term, refusal_of}
+use Rattle.term.specs.Reading.{read_term, reading_refusal}
 use Rattle.term.specs.Whole.{whole_term}
-use Rattle.term.specs.declared.reading.Reading.{Reading}
-use Rattle.term.specs.declared.reading.Reading.TheVariants.{Whole, Refused}
-use Rattle.commands.specs.Kinds.{Kind, kind_at, term_is}
-use Rattle.commands.specs.Commands.{Command, command_with, is_wrong_command, with_term, read_by, command_from, command_in, Read}
-use Rattle.commands.specs.Laws.{Wrong, TakesTerm, wrong_to, wrong_of, FaultIs, low_fault, fault_low, Said, wrong, faulty, whole, plain, first_cell}
+use Rattle.term.specs.declared.reading.Refused.{Refused}
+use Rattle.commands.specs.Kinds.{Act, Kind, kind_at, act_of, term_of, about_term, with_act, term_is}
+use Rattle.commands.specs.Commands.{Command, Refusal, NumberNotZero, command_with, is_wrong_number, with_term, read_by, command_from, command_in, command_refusal, Read}
+use Rattle.commands.specs.Laws.{Wrong, TakesTerm, wrong_to, wrong_of, FaultIs, fault_low, low_refusal, refusal_low, Said, unknown, not_zero, faulty, whole, plain, first_cell}
+
+ok_inj : {a b : Command} → ◌≡◌ {A = Result Command Refusal} (Ok a) (Ok b) → a ≡ b
+ok_inj e = cc
+
+refused_ok : {P : Type 0} {why : Refusal} {c : Command} → ◌≡◌ {A = Result Command Refusal} (Err why) (Ok c) → P
+refused_ok e = absurd cc
 
 -- ---- what a command cell says, with the cells behind it
 
-module _ (k : Kind) (number : ℕ) (behind : List ℕ) where
-  abbrev Says : Command → Type 0
+said_by : (k : Option Kind) (number : ℕ) (behind : List ℕ) → Said k number behind (read_by k number behind)
+unfolding read_by
+said_by None number behind = unknown refl
+said_by (Some k) number behind = go (is_wrong_number k number) refl k.term refl (read_term behind) refl
+  where
+    right : is_wrong_number k number ≡ false → ¬ (Wrong (Some k) number)
+    right e (inl u) = absurd cc
+    right e (inr x) = true_not_false (wrong_of k.zero number x.0 x.1) e
+
+    go : (b : Bool) → is_wrong_number k number ≡ b → (t : Bool) → k.term ≡ t → (r : Result ℕ Refused) → read_term behind ≡ r
+        → Said (Some k) number behind (pick b (Err NumberNotZero) (pick t (with_term k number r) (Ok (command_with k number 0))))
+    go true e t f r q = let w = wrong_to k.zero number e in not_zero w.0 w.1
+    go false e true f (Ok size) q = whole k size refl (f, right e) q
+    go false e true f (Err r) q = faulty r.fault r.place (f, right e) q
+    go false e false f r q = plain k refl f (right e)
+
+module _ (k : Option Kind) (number : ℕ) (behind : List ℕ) where
+  abbrev Says : Result Command Refusal → Type 0
   Says = Said k number behind
 
-  abbrev it : Command
+  abbrev it : Result Command Refusal
   it = read_by k number behind
 
   pub said : Says it
-  unfolding read_by
-  said = go (is_wrong_command k number) refl k.term refl (read_term behind) refl
-    where
-      right : is_wrong_command k number ≡ false → ¬ (Wrong k number)
-      right e w = true_not_false (wrong_of k.known k.zero number w) e
+  said = said_by k number behind
 
-      go : (b : Bool) → is_wrong_command k number ≡ b → (t : Bool) → k.term ≡ t → (r : Reading) → read_term behind ≡ r
-          → Says (pick b (command_with k number 0 2) (pick t (with_term k number r) (command_with k number 0 0)))
-      go true e t f r q = wrong (wrong_to k.known k.zero number e)
-      go false e true f (Whole size) q = whole size (f, right e) q
-      go false e true f (Refused fault place) q = faulty fault place (f, right e) q
-      go false e false f r q = plain f (right e)
-
-  pub two : it.stop ≡ 2 ↔ Wrong k number
+  pub two : command_refusal it ≡ 2 ↔ Wrong k number
   two = (λ e. to it said e, λ w. of it said w)
     where
-      to : (c : Command) → Says c → c.stop ≡ 2 → Wrong k number
-      to c (wrong w) e = w
-      to c (faulty fault place t q) e = absurd (let l = fault_low fault in omega arith)
-      to c (whole size t q) e = absurd (omega arith)
-      to c (plain f n) e = absurd (omega arith)
+      to : (r : Result Command Refusal) → Says r → command_refusal r ≡ 2 → Wrong k number
+      to r (unknown n) e = inl n
+      to r (not_zero z n) e = inr (z, n)
+      to r (faulty fault place t q) e = absurd (let l = fault_low fault in omega arith)
+      to r (whole row size s t q) e = absurd (omega arith)
+      to r (plain row s f n) e = absurd (omega arith)
 
-      of : (c : Command) → Says c → Wrong k number → c.stop ≡ 2
-      of c (wrong v) w = refl
-      of c (faulty fault place t q) w = absurd (t.1 w)
-      of c (whole size t q) w = absurd (t.1 w)
-      of c (plain f n) w = absurd (n w)
+      of : (r : Result Command Refusal) → Says r → Wrong k number → command_refusal r ≡ 2
+      of r (unknown n) w = refl
+      of r (not_zero z n) w = refl
+      of r (faulty fault place t q) w = absurd (t.1 w)
+      of r (whole row size s t q) w = absurd (t.1 w)
+      of r (plain row s f n) w = absurd (n w)
 
-  pub term_fault : (r : ℕ) → 3 ≤ r → it.stop ≡ r ↔ (TakesTerm k number × FaultIs r behind)
+  pub term_fault : (r : ℕ) → 3 ≤ r → command_refusal it ≡ r ↔ (TakesTerm k number × FaultIs r behind)
   term_fault r h = (λ e. to it said e, λ w. of it said w.0 w.1)
     where
-      to : (c : Command) → Says c → c.stop ≡ r → TakesTerm k number × FaultIs r behind
-      to c (wrong w) e = absurd (omega arith)
-      to c (faulty fault place t q) e = (t, (fault, place, q, e))
-      to c (whole size t q) e = absurd (omega arith)
-      to c (plain f n) e = absurd (omega arith)
+      to : (x : Result Command Refusal) → Says x → command_refusal x ≡ r → TakesTerm k number × FaultIs r behind
+      to x (unknown n) e = absurd (omega arith)
+      to x (not_zero z n) e = absurd (omega arith)
+      to x (faulty fault place t q) e = (t, (fault, place, q, e))
+      to x (whole row size s t q) e = absurd (omega arith)
+      to x (plain row s f n) e = absurd (omega arith)
 
-      refusal : Reading → ℕ
-      refusal (Whole size) = 0
-      refusal (Refused fault place) = refusal_of fault
-
-      of : (c : Command) → Says c → TakesTerm k number → FaultIs r behind → c.stop ≡ r
-      of c (wrong w) t f = absurd (t.1 w)
-      of c (faulty fault place t' q) t f = ap refusal (sym q ∙ f.2) ∙ f.3
-      of c (whole size t' q) t f = absurd (let e = ap refusal (sym q ∙ f.2) ∙ f.3 in omega arith)
-      of c (plain e n) t f = absurd (true_not_false t.0 e)
+      of : (x : Result Command Refusal) → Says x → TakesTerm k number → FaultIs r behind → command_refusal x ≡ r
+      of x (unknown n) t f = absurd (t.1 (inl n))
+      of x (not_zero z n) t f = absurd (t.1 (inr (z, n)))
+      of x (faulty fault place t' q) t f = ap reading_refusal (sym q ∙ f.2) ∙ f.3
+      of x (whole row size s t' q) t f = absurd (let e = ap reading_refusal (sym q ∙ f.2) ∙ f.3 in omega arith)
+      of x (plain row s e n) t f = absurd (true_not_false t.0 e)
 
   -- a whole term
-  pub whole_read : (size : ℕ) → TakesTerm k number → read_term behind ≡ Whole size → it ≡ command_with k number size 0
-  whole_read size t e = go it said
+  pub whole_read : (row : Kind) (size : ℕ) → k ≡ Some row → TakesTerm k number → read_term behind ≡ Ok size → it ≡ Ok (command_with row number size)
+  whole_read row size s t e = go it said
     where
-      size_in : Reading → ℕ
-      size_in (Whole n) = n
-      size_in (Refused fault place) = 0
-
-      go : (c : Command) → Says c → c ≡ command_with k number size 0
-      go c (wrong w) = absurd (t.1 w)
-      go c (faulty fault place t' q) = absurd (let z : ◌≡◌ {A = ℕ} 0 1 = (let r = sym q ∙ e in cc) in omega arith)
-      go c (whole n t' q) = ap (λ (j : ℕ). command_with k number j 0) (ap size_in (sym q ∙ e))
-      go c (plain f n) = absurd (true_not_false t.0 f)
+      go : (x : Result Command Refusal) → Says x → x ≡ Ok (command_with row number size)
+      go x (unknown n) = absurd (t.1 (inl n))
+      go x (not_zero z n) = absurd (t.1 (inr (z, n)))
+      go x (faulty fault place t' q) = absurd (let r = sym q ∙ e in cc)
+      go x (whole row' n s' t' q) = let a = sym s' ∙ s in let b = sym q ∙ e in cc
+      go x (plain row' s' f n) = absurd (true_not_false t.0 f)
 
   -- no term
-  pub plain_read : k.term ≡ false → ¬ (Wrong k number) → it ≡ command_with k number 0 0
-  plain_read f n = go it said
+  pub plain_read : (row : Kind) → k ≡ Some row → term_of k ≡ false → ¬ (Wrong k number) → it ≡ Ok (command_with row number 0)
+  plain_read row s f n = go it said
     where
-      go : (c : Command) → Says c → c ≡ command_with k number 0 0
-      go c (wrong w) = absurd (n w)
-      go c (faulty fault place t q) = absurd (true_not_false t.0 f)
-      go c (whole size t q) = absurd (true_not_false t.0 f)
-      go c (plain g m) = refl
+      go : (x : Result Command Refusal) → Says x → x ≡ Ok (command_with row number 0)
+      go x (unknown u) = absurd (n (inl u))
+      go x (not_zero z u) = absurd (n (inr (z, u)))
+      go x (faulty fault place t q) = absurd (true_not_false t.0 f)
+      go x (whole row' size s' t q) = absurd (true_not_false t.0 f)
+      go x (plain row' s' g m) = let a = sym s' ∙ s in cc
 
-  -- whatever is wrong, the act is the row's and the number the cell's
-  pub act_is : it.act ≡ k.act
-  act_is = go it said
+  -- the act is the row's and the number the cell's
+  pub act_is : (c : Command) → it ≡ Ok c → act_of k ≡ Some c.act
+  act_is c = go it said
     where
-      go : (c : Command) → Says c → c.act ≡ k.act
-      go c (wrong w) = refl
-      go c (faulty fault place t q) = refl
-      go c (whole size t q) = refl
-      go c (plain f n) = refl
+      act : Result Command Refusal → Option Act
+      act (Ok c) = Some c.act
+      act (Err why) = None
 
-  pub number_is : it.number ≡ number
-  number_is = go it said
-    where
-      go : (c : Command) → Says c → c.number ≡ number
-      go c (wrong w) = refl
-      go c (faulty fault place t q) = refl
-      go c (whole size t q) = refl
-      go c (plain f n) = refl
+      go : (x : Result Command Refusal) → Says x → x ≡ Ok c → act_of k ≡ Some c.act
+      go x (unknown n) e = refused_ok e
+      go x (not_zero z n) e = refused_ok e
+      go x (faulty fault place t q) e = refused_ok e
+      go x (whole row size s t q) e = ap act_of s ∙ ap act e
+      go x (plain row s f n) e = ap act_of s ∙ ap act e
 
-  -- it goes on, or stops with 2 to 5
-  pub stop_range : (it.stop ≡ 0) ⊎ ((2 ≤ it.stop) × (it.stop ≤ 5))
-  stop_range = go it said
+  pub number_is : (c : Command) → it ≡ Ok c → c.number ≡ number
+  number_is c = go it said
     where
-      go : (c : Command) → Says c → (c.stop ≡ 0) ⊎ ((2 ≤ c.stop) × (c.stop ≤ 5))
-      go c (wrong w) = inr (omega arith, omega arith)
-      go c (faulty fault place t q) = inr (let l = fault_low fault in omega arith, low_fault fault)
-      go c (whole size t q) = inl refl
-      go c (plain f n) = inl refl
+      go : (x : Result Command Refusal) → Says x → x ≡ Ok c → c.number ≡ number
+      go x (unknown n) e = refused_ok e
+      go x (not_zero z n) e = refused_ok e
+      go x (faulty fault place t q) e = refused_ok e
+      go x (whole row size s t q) e = ap (λ (c : Command). c.number) (sym (ok_inj e))
+      go x (plain row s f n) e = ap (λ (c : Command). c.number) (sym (ok_inj e))
+
+-- it goes on, or stops with 2 to 5
+pub stop_range : (r : Result Command Refusal) → (command_refusal r ≡ 0) ⊎ ((2 ≤ command_refusal r) × (command_refusal r ≤ 5))
+stop_range (Ok c) = inl refl
+stop_range (Err why) = inr (refusal_low why, low_refusal why)
 
 -- ---- what is known of a command that was read
 
-pub read_of : (kind number : ℕ) (behind : List ℕ) → number < 4096 → Read behind (command_from kind number behind)
-read_of kind number behind low = go (command_from kind number behind) (said (kind_at kind) number behind)
+pub read_of : (kind number : ℕ) (behind : List ℕ) → number < 4096 → (c : Command) → command_from kind number behind ≡ Ok c → Read behind c
+read_of kind number behind low c = go (command_from kind number behind) (said (kind_at kind) number behind)
   where
-    go : (c : Command) → Said (kind_at kind) number behind c → Read behind c
-    go c (wrong w) = record { number_low = low; stop_low = omega arith; inside = omega arith; whole = λ e a. absurd (omega arith) }
-    go c (faulty fault place t q) = record
-        { number_low = low; stop_low = low_fault fault; inside = omega arith; whole = λ e a. absurd (let l = fault_low fault in omega arith) }
-    go c (whole size t q) = record { number_low = low; stop_low = omega arith; inside = (whole_term behind size q).inside; whole = λ e a. q }
-    go c (plain f n) = record { number_low = low; stop_low = omega arith; inside = omega arith; whole = λ e a. absurd (true_not_false (term_is kind ∙ a) f) }
+    go : (x : Result Command Refusal) → Said (kind_at kind) number behind x → x ≡ Ok c → Read behind c
+    go x (unknown n) e = refused_ok e
+    go x (not_zero z n) e = refused_ok e
+    go x (faulty fault place t q) e = refused_ok e
+    go x (whole row size s t q) e = subst (Read behind) (ok_inj e) (record { number_low = low; inside = (whole_term behind size q).inside; whole = λ a. q })
+    go x (plain row s f n) e = subst (Read behind) (ok_inj e)
+        (record {
+          number_low = low;
+          inside = omega arith;
+          whole = λ a. absurd (true_not_false (term_is kind ∙ ap (λ (r : Option Kind). with_act about_term (act_of r)) s ∙ a) f);
+        })
 
 -- ---- the command at a place of the cells
 
-pub read_at : (cells : List ℕ) (at : ℕ) → at < length cells → Read (drop (at + 1) cells) (command_in (drop at cells))
-read_at cells at h = subst (Read (drop (at + 1) cells)) (sym (first_cell cells at h))
-    (read_of (get_or cells at 0 / 4096) (get_or cells at 0 % 4096) (drop (at + 1) cells) (omega arith))
+pub read_at : (cells : List ℕ) (at : ℕ) → at < length cells → (c : Command) → command_in (drop at cells) ≡ Some (Ok c) → Read (drop (at + 1) cells) c
+read_at cells at h c e = read_of (get_or cells at 0 / 4096) (get_or cells at 0 % 4096) (drop (at + 1) cells) (omega arith) c (let r = sym (first_cell cells at h) ∙ e in cc)

@@ -1,50 +1,60 @@
 -- What a command says: Reference 6, 7 and 9.
-use Rattle.std.specs.Prelude.{◌≡◌, List, [], ◌∷◌, Bool, true, false, not, ℕ, ◌/◌, ◌%◌, ◌≤◌, ◌<◌, eqb, length}
-use Rattle.deciding.specs.Deciding.{pick}
+use Rattle.std.specs.Prelude.{◌≡◌, List, [], ◌∷◌, Bool, true, not, ℕ, ◌/◌, ◌%◌, ◌≤◌, ◌<◌, eqb, length, Option, Some, None, Result, Ok, Err}
+use Rattle.deciding.specs.Deciding.{pick, both}
 use Rattle.term.specs.Reading.{read_term, refusal_of}
-use Rattle.term.specs.declared.reading.Reading.{Reading}
-use Rattle.term.specs.declared.reading.Reading.TheVariants.{Whole, Refused}
-use Rattle.commands.specs.Kinds.{Unknown, Kind, kind_at, about_term}
-use Rattle.commands.specs.Reader.{Next, Cell, End}
+use Rattle.term.specs.declared.reading.Refused.{Refused}
+use Rattle.commands.specs.Kinds.{Kind, kind_at, about_term}
 pub use Rattle.commands.specs.declared.reader.Command.{Command}
+pub use Rattle.commands.specs.declared.reader.Refusal.{Refusal}
+pub use Rattle.commands.specs.declared.reader.Refusal.TheVariants.{UnknownKind, NumberNotZero, Term}
 
--- A command of some row: so many of the cells behind its command cell are its term, and it stops the batch with that number; with 0 it goes on.
-abbrev pub command_with : Kind → (number size stop : ℕ) → Command
-command_with k number size stop = record { act = k.act; number = number; size = size; stop = stop }
+-- The refusal number: 2 where the kind is unknown, or the number has to be 0 and is not; else that of the term's fault.
+abbrev pub refusal_number : Refusal → ℕ
+refusal_number UnknownKind = 2
+refusal_number NumberNotZero = 2
+refusal_number (Term fault) = refusal_of fault
 
--- Refusal 2: the kind is unknown, or the number has to be 0 and is not.
-abbrev pub is_wrong_command : Kind → ℕ → Bool
-is_wrong_command k number = pick k.known (pick k.zero (not (eqb number 0)) false) true
+-- A command of some row: so many of the cells behind its command cell are its term.
+abbrev pub command_with : Kind → (number size : ℕ) → Command
+command_with k number size = record { act = k.act; number = number; size = size }
 
--- With a term behind it, it has the term's length, or stops as the term is refused.
-abbrev pub with_term : Kind → ℕ → Reading → Command
-with_term k number (Whole size) = command_with k number size 0
-with_term k number (Refused fault place) = command_with k number 0 (refusal_of fault)
+-- With a term behind it, it has the term's length, or is refused as the term is.
+abbrev pub with_term : Kind → ℕ → Result ℕ Refused → Result Command Refusal
+with_term k number (Ok size) = Ok (command_with k number size)
+with_term k number (Err refused) = Err (Term refused.fault)
+
+abbrev pub is_wrong_number : Kind → ℕ → Bool
+is_wrong_number k number = both k.zero (not (eqb number 0))
 
 -- A command is read by its row alone: 2 comes first, and then the term, where one follows.
-unfoldable pub read_by : Kind → ℕ → List ℕ → Command
-read_by k number behind = pick (is_wrong_command k number) (command_with k number 0 2) (pick k.term (with_term k number (read_term behind)) (command_with k number 0 0))
+unfoldable pub read_by : Option Kind → ℕ → List ℕ → Result Command Refusal
+read_by None number behind = Err UnknownKind
+read_by (Some k) number behind = pick (is_wrong_number k number) (Err NumberNotZero) (pick k.term (with_term k number (read_term behind)) (Ok (command_with k number 0)))
 
-abbrev pub command_from : (kind number : ℕ) → List ℕ → Command
+abbrev pub command_from : (kind number : ℕ) → List ℕ → Result Command Refusal
 command_from kind number behind = read_by (kind_at kind) number behind
 
--- Where there is no cell there is nothing to do.
-abbrev pub nothing_said : Command
-nothing_said = record { act = Unknown; number = 0; size = 0; stop = 0 }
-
 -- The command that a cell begins: 4 bits kind, 12 bits number, and what stands behind them.
-abbrev pub command_by : Next → List ℕ → Command
-command_by End behind = nothing_said
-command_by (Cell c) behind = command_from (c / 4096) (c % 4096) behind
+abbrev pub command_of : (c : ℕ) → List ℕ → Result Command Refusal
+command_of c behind = command_from (c / 4096) (c % 4096) behind
 
--- The first command of some cells.
-abbrev pub command_in : List ℕ → Command
-command_in [] = nothing_said
-command_in (c ∷ behind) = command_by (Cell c) behind
+-- The first command of some cells; where there is no cell, none.
+abbrev pub command_in : List ℕ → Option (Result Command Refusal)
+command_in [] = None
+command_in (c ∷ behind) = Some (command_of c behind)
+
+-- What was read as two numbers: the refusal with which the command stops the batch, with 0 it goes on; and how many of the cells
+-- behind its command cell are its term.
+abbrev pub command_refusal : Result Command Refusal → ℕ
+command_refusal (Ok c) = 0
+command_refusal (Err why) = refusal_number why
+
+abbrev pub command_size : Result Command Refusal → ℕ
+command_size (Ok c) = c.size
+command_size (Err why) = 0
 
 -- What is known of a command that was read, with the cells behind its command cell.
 pub record Read (behind : List ℕ) (c : Command) : Type 0 where
   pub number_low : c.number < 4096
-  pub stop_low : c.stop ≤ 5
   pub inside : c.size ≤ length behind
-  pub whole : c.stop ≡ 0 → about_term c.act ≡ true → read_term behind ≡ Whole c.size
+  pub whole : about_term c.act ≡ true → read_term behind ≡ Ok c.size

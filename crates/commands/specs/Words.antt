@@ -1,10 +1,10 @@
 -- The table of kinds in the reference's words (6): kinds 2 to 5 and 7 need number 0, 0 and 2 to 5 are followed by a term, from 8 on there are none.
-use Rattle.std.specs.Prelude.{◌≡◌, refl, ◌⊎◌, ◌↔◌, Bool, true, false, ℕ, ◌≤◌, eqb, leb, ltb}
+use Rattle.std.specs.Prelude.{◌≡◌, refl, ◌⊎◌, ◌↔◌, Bool, true, false, ℕ, ◌≤◌, eqb, leb, ltb, Option, Some, None, is_some}
 use Rattle.std.proofs.Common.{sym, ap, ◌∙◌, inl, inr, arith, eq-eqb, ne_eqb, eqb-true, le-leb, leb-true, le-ltb, ltb-false}
 use Rattle.std.proofs.lemmas.Bool.{lt-leb}
 use Rattle.deciding.specs.Deciding.{both, of_both, true_not_false}
 use Rattle.term.specs.Questions.{Mode, variants, instances, generalisations, unifiables}
-use Rattle.commands.specs.Kinds.{Act, Unknown, Add, Remove, Ask, Show, Room, Kind, ask, unknown, kinds, kind_at, every, or_not, same, same_true, since, at_kind}
+use Rattle.commands.specs.Kinds.{Act, Add, Remove, Ask, Show, Room, Kind, ask, kinds, kind_at, act_of, zero_of, term_of, every, or_not, same, same_true, since, at_kind}
 
 abbrev either : Bool → Bool → Bool
 either true b = true
@@ -35,23 +35,27 @@ no_question k h = rw (le-leb 2 k (omega arith), lt-leb k 5 (omega arith))
 
 -- ---- the columns
 
-known_is : (k : ℕ) → (kind_at k).known ≡ ltb k 8
-known_is k = same_true (kind_at k).known (ltb k 8) (at_kind (λ n row. same row.known (ltb n 8)) (λ n h. rw (le-ltb n 8 h)) refl k)
+known_is : (k : ℕ) → is_some (kind_at k) ≡ ltb k 8
+known_is k = same_true (is_some (kind_at k)) (ltb k 8) (at_kind (λ n row. same (is_some row) (ltb n 8)) (λ n h. rw (le-ltb n 8 h)) refl k)
 
-zero_is : (k : ℕ) → (kind_at k).zero ≡ either (question k) (eqb k 7)
+zero_is : (k : ℕ) → zero_of (kind_at k) ≡ either (question k) (eqb k 7)
 zero_is k =
-    same_true (kind_at k).zero (either (question k) (eqb k 7))
-    (at_kind (λ n row. same row.zero (either (question n) (eqb n 7))) (λ n h. rw (no_question n h, ne_eqb n 7 (λ e. absurd (omega arith)))) refl k)
+    same_true (zero_of (kind_at k)) (either (question k) (eqb k 7))
+    (at_kind (λ n row. same (zero_of row) (either (question n) (eqb n 7))) (λ n h. rw (no_question n h, ne_eqb n 7 (λ e. absurd (omega arith)))) refl k)
 
-term_follows : (k : ℕ) → (kind_at k).term ≡ either (eqb k 0) (question k)
+term_follows : (k : ℕ) → term_of (kind_at k) ≡ either (eqb k 0) (question k)
 term_follows k =
-    same_true (kind_at k).term (either (eqb k 0) (question k))
-    (at_kind (λ n row. same row.term (either (eqb n 0) (question n))) (λ n h. rw (ne_eqb n 0 (λ e. absurd (omega arith)), no_question n h)) refl k)
+    same_true (term_of (kind_at k)) (either (eqb k 0) (question k))
+    (at_kind (λ n row. same (term_of row) (either (eqb n 0) (question n))) (λ n h. rw (ne_eqb n 0 (λ e. absurd (omega arith)), no_question n h)) refl k)
 
-unknown_kinds : (k : ℕ) → (kind_at k).known ≡ false ↔ 8 ≤ k
-unknown_kinds k = (λ e. ltb-false k 8 (sym (known_is k) ∙ e), λ h. known_is k ∙ le-ltb k 8 h)
+none_is : (row : Option Kind) → is_some row ≡ false → row ≡ None
+none_is None e = refl
+none_is (Some r) e = absurd (true_not_false refl e)
 
-zero_kinds : (k : ℕ) → (kind_at k).zero ≡ true ↔ (((2 ≤ k) × (k ≤ 5)) ⊎ (k ≡ 7))
+unknown_kinds : (k : ℕ) → kind_at k ≡ None ↔ 8 ≤ k
+unknown_kinds k = (λ e. ltb-false k 8 (sym (known_is k) ∙ ap is_some e), λ h. none_is (kind_at k) (known_is k ∙ le-ltb k 8 h))
+
+zero_kinds : (k : ℕ) → zero_of (kind_at k) ≡ true ↔ (((2 ≤ k) × (k ≤ 5)) ⊎ (k ≡ 7))
 zero_kinds k = (λ e. to (either_true (question k) (eqb k 7) (sym (zero_is k) ∙ e)), λ x. zero_is k ∙ either_of (question k) (eqb k 7) (of x))
   where
     to : (question k ≡ true) ⊎ (eqb k 7 ≡ true) → ((2 ≤ k) × (k ≤ 5)) ⊎ (k ≡ 7)
@@ -62,7 +66,7 @@ zero_kinds k = (λ e. to (either_true (question k) (eqb k 7) (sym (zero_is k) �
     of (inl x) = inl (asks k x.0 x.1)
     of (inr e) = inr (eq-eqb k 7 e)
 
-term_kinds : (k : ℕ) → (kind_at k).term ≡ true ↔ ((k ≡ 0) ⊎ ((2 ≤ k) × (k ≤ 5)))
+term_kinds : (k : ℕ) → term_of (kind_at k) ≡ true ↔ ((k ≡ 0) ⊎ ((2 ≤ k) × (k ≤ 5)))
 term_kinds k = (λ e. to (either_true (eqb k 0) (question k) (sym (term_follows k) ∙ e)), λ x. term_follows k ∙ either_of (eqb k 0) (question k) (of x))
   where
     to : (eqb k 0 ≡ true) ⊎ (question k ≡ true) → (k ≡ 0) ⊎ ((2 ≤ k) × (k ≤ 5))
@@ -75,24 +79,24 @@ term_kinds k = (λ e. to (either_true (eqb k 0) (question k) (sym (term_follows 
 
 -- ---- what each does
 
-abbrev number_of : Act → ℕ
-number_of Unknown = 0
-number_of Add = 1
-number_of Remove = 2
-number_of (Ask false false) = 3
-number_of (Ask true false) = 4
-number_of (Ask false true) = 5
-number_of (Ask true true) = 6
-number_of Show = 7
-number_of Room = 8
+abbrev number_of : Option Act → ℕ
+number_of None = 0
+number_of (Some Add) = 1
+number_of (Some Remove) = 2
+number_of (Some (Ask false false)) = 3
+number_of (Some (Ask true false)) = 4
+number_of (Some (Ask false true)) = 5
+number_of (Some (Ask true true)) = 6
+number_of (Some Show) = 7
+number_of (Some Room) = 8
 
 -- an act that one row has
-abbrev only : Act → ℕ → ℕ → Kind → Bool
-only act n k row = or_not (eqb (number_of row.act) (number_of act)) (eqb k n)
+abbrev only : Act → ℕ → ℕ → Option Kind → Bool
+only act n k row = or_not (eqb (number_of (act_of row)) (number_of (Some act))) (eqb k n)
 
-one_kind : (act : Act) (n : ℕ) → every (only act n) 0 kinds ≡ true → ((k : ℕ) → only act n k unknown ≡ true) → (kind_at n).act ≡ act → (k : ℕ) → (kind_at k).act ≡ act ↔ k ≡ n
+one_kind : (act : Act) (n : ℕ) → every (only act n) 0 kinds ≡ true → ((k : ℕ) → only act n k None ≡ true) → act_of (kind_at n) ≡ Some act → (k : ℕ) → act_of (kind_at k) ≡ Some act ↔ k ≡ n
 one_kind act n all behind at k =
-    (λ e. eqb-true k n (since _ (eqb k n) (at_kind (only act n) (λ j _. behind j) all k) (eq-eqb _ _ (ap number_of e))), λ e. ap (λ (j : ℕ). (kind_at j).act) e ∙ at)
+    (λ e. eqb-true k n (since _ (eqb k n) (at_kind (only act n) (λ j _. behind j) all k) (eq-eqb _ _ (ap number_of e))), λ e. ap (λ (j : ℕ). act_of (kind_at j)) e ∙ at)
 
 -- the kind of each question
 abbrev pub kind_of : Mode → ℕ
@@ -101,7 +105,7 @@ kind_of instances = 3
 kind_of generalisations = 4
 kind_of unifiables = 5
 
-ask_kinds : (mode : Mode) (k : ℕ) → (kind_at k).act ≡ ask mode ↔ k ≡ kind_of mode
+ask_kinds : (mode : Mode) (k : ℕ) → act_of (kind_at k) ≡ Some (ask mode) ↔ k ≡ kind_of mode
 unfolding kind_at
 ask_kinds variants = one_kind (ask variants) 2 refl (λ _. refl) refl
 ask_kinds instances = one_kind (ask instances) 3 refl (λ _. refl) refl
@@ -111,14 +115,14 @@ ask_kinds unifiables = one_kind (ask unifiables) 5 refl (λ _. refl) refl
 -- ---- all together
 
 pub record InWords (k : ℕ) : Type 0 where
-  pub unknown_from : (kind_at k).known ≡ false ↔ 8 ≤ k
-  pub needs_zero : (kind_at k).zero ≡ true ↔ (((2 ≤ k) × (k ≤ 5)) ⊎ (k ≡ 7))
-  pub takes_term : (kind_at k).term ≡ true ↔ ((k ≡ 0) ⊎ ((2 ≤ k) × (k ≤ 5)))
-  pub adds : (kind_at k).act ≡ Add ↔ k ≡ 0
-  pub removes : (kind_at k).act ≡ Remove ↔ k ≡ 1
-  pub asks_by : (mode : Mode) → (kind_at k).act ≡ ask mode ↔ k ≡ kind_of mode
-  pub shows : (kind_at k).act ≡ Show ↔ k ≡ 6
-  pub counts : (kind_at k).act ≡ Room ↔ k ≡ 7
+  pub unknown_from : kind_at k ≡ None ↔ 8 ≤ k
+  pub needs_zero : zero_of (kind_at k) ≡ true ↔ (((2 ≤ k) × (k ≤ 5)) ⊎ (k ≡ 7))
+  pub takes_term : term_of (kind_at k) ≡ true ↔ ((k ≡ 0) ⊎ ((2 ≤ k) × (k ≤ 5)))
+  pub adds : act_of (kind_at k) ≡ Some Add ↔ k ≡ 0
+  pub removes : act_of (kind_at k) ≡ Some Remove ↔ k ≡ 1
+  pub asks_by : (mode : Mode) → act_of (kind_at k) ≡ Some (ask mode) ↔ k ≡ kind_of mode
+  pub shows : act_of (kind_at k) ≡ Some Show ↔ k ≡ 6
+  pub counts : act_of (kind_at k) ≡ Some Room ↔ k ≡ 7
 
 pub in_words : (k : ℕ) → InWords k
 unfolding kind_at

@@ -1,119 +1,66 @@
 // Commands out of cells that anybody may have written. The cells and the place in them travel together as one reader.
 ghost use Rattle.std.specs.Prelude.{◌≡◌, ◌+◌, ◌<◌, drop};
-ghost use Rattle.deciding.specs.Deciding.{pick};
-ghost use Rattle.term.specs.Reading.{read_term};
 ghost use Rattle.commands.specs.Reader.{cell_in, past};
-ghost use Rattle.commands.specs.Commands.{command_with, is_wrong_command, with_term, command_by, command_in};
+ghost use Rattle.commands.specs.declared.reader.Refusal.TheVariants.{Term};
+ghost use Rattle.commands.specs.Commands.{refusal_number, read_by, command_of as command_at, command_in};
 
 use crate::kinds;
 use crate::kinds::{Act, Kind};
+use std::error::Error;
+use std::fmt;
 use term::reading;
-use term::reading::Reading;
+use term::reading::{Fault, Refused};
 
-// A command as it was read: what to do, under which number, and how many of the cells behind its command cell are its term; and
-// the refusal with which it stops the batch, or 0.
-#[derive(Clone, Copy)]
+// A command as it was read: what to do, under which number, and how many of the cells behind its command cell are its term.
+#[derive(Clone, Copy, Debug, PartialEq, Eq)]
 pub struct Command {
     pub act: Act,
     pub number: u16,
     pub size: usize,
-    pub stop: u64,
 }
 
-// A cell, or the end of the cells.
-#[derive(Drop)]
-pub enum Next {
-    Cell(u16),
-    End,
+// Why a command is refused, and the batch stops.
+#[derive(Clone, Copy, Debug, PartialEq, Eq)]
+pub enum Refusal {
+    // There is no such kind.
+    UnknownKind,
+    // The number has to be 0 and is not.
+    NumberNotZero,
+    // The term that follows is at fault.
+    Term(Fault),
 }
 
-// What stands at a place of the cells.
-fn cell_at(cells: &[u16], at: usize) -> Next
-    ensures { result ≡ cell_in (drop at cells.now) }
-{
-    if at < cells.len() {
-        return Next::Cell(cells[at]);
-    }
-    Next::End
-}
+// The refusal number: 2, or that of the term's fault.
+impl From<Refusal> for u64 {
+    ghost from_gives = { λ why number. number ≡ refusal_number why };
 
-// The place behind the cell at a place; the same place where there is none, so nothing has to be asked of it.
-fn place_past(cells: &[u16], at: usize) -> usize
-    ensures { result ≡ past cells.now at }
-{
-    if at < cells.len() {
-        return at + 1;
-    }
-    at
-}
-
-// Refusal 2: the kind is unknown, or the number has to be 0 and is not.
-fn is_wrong(kind: Kind, number: u16) -> bool
-    ensures { result ≡ is_wrong_command kind number }
-{
-    if !kind.known {
-        return true;
-    }
-    if kind.zero {
-        return number != 0;
-    }
-    false
-}
-
-// A command of a known kind and number: its term is read where one follows.
-fn term_at(cells: &[u16], at: usize, kind: Kind, number: u16) -> Command
-    ensures { result ≡ pick kind.term (with_term kind number (read_term (drop at cells.now))) (command_with kind number 0 0) }
-{
-    let act = kind.act;
-    if !kind.term {
-        return Command {
-            act,
-            number,
-            size: 0,
-            stop: 0,
-        };
-    }
-    match reading::read(cells, at) {
-        Reading::Whole(size) => Command {
-            act,
-            number,
-            size,
-            stop: 0,
-        },
-        Reading::Refused(fault, _) => Command {
-            act,
-            number,
-            size: 0,
-            stop: reading::refusal(fault),
-        },
+    fn from(why: Refusal) -> u64 {
+        match why {
+            Refusal::UnknownKind | Refusal::NumberNotZero => 2,
+            Refusal::Term(fault) => u64::from(fault),
+        }
     }
 }
 
-// The command that a cell begins, with the cells behind it from a place on. Where there is no cell there is nothing to do.
-fn command_of(next: Next, cells: &[u16], at: usize) -> Command
-    ensures { result ≡ command_by next (drop at cells.now) }
-{
-    let Next::Cell(c) = next else {
-        return Command {
-            act: Act::Unknown,
-            number: 0,
-            size: 0,
-            stop: 0,
-        };
-    };
-    let kind = kinds::kind_of(c / 4096);
-    let number = c % 4096;
-    if is_wrong(kind, number) {
-        let act = kind.act;
-        return Command {
-            act,
-            number,
-            size: 0,
-            stop: 2,
-        };
+impl From<Refused> for Refusal {
+    ghost from_gives = { λ refused why. why ≡ Term refused.fault };
+
+    fn from(refused: Refused) -> Refusal {
+        Refusal::Term(refused.fault)
     }
-    term_at(cells, at, kind, number)
 }
+
+impl fmt::Display for Refusal {
+    fn fmt<W: fmt::Write>(&self, f: &mut fmt::Formatter<W>) -> fmt::Result {
+        match self {
+            Refusal::UnknownKind => f.write_str("there is no such kind of command"),
+            Refusal::NumberNotZero => f.write_str("the command's number is not 0"),
+            Refusal::Term(fault) => write!(f, "{fault}"),
+        }
+    }
+}
+
+impl Error for Refusal {}
 
 // Cells and a place in them.
 #[derive(Clone, Copy)]
@@ -129,34 +76,62 @@ pub fn reader_at<'a>(cells: &'a [u16], at: usize) -> Reader<'a>
     Reader { cells, at }
 }
 
-// The next cell; the reader stays where it is.
-pub fn next_cell<'a>(r: Reader<'a>) -> Next
+// The next cell, none at the end; the reader stays where it is.
+pub fn next_cell(r: Reader<'_>) -> Option<u16>
     ensures { result ≡ cell_in (drop r.entry.at r.entry.cells.now) }
 {
-    cell_at(r.cells, r.at)
+    r.cells.get(r.at).copied()
 }
 
-// The reader moved on past its next cell; at the end it stays.
+// The reader moved on past its next cell; at the end it stays, so nothing has to be asked of it.
 pub fn moved_on<'a>(r: Reader<'a>) -> Reader<'a>
     ensures { (result.cells ≡ r.entry.cells) × (result.at ≡ past r.entry.cells.now r.entry.at) }
 {
-    Reader {
-        cells: r.cells,
-        at: place_past(r.cells, r.at),
+    if r.at < r.cells.len() {
+        return reader_at(r.cells, r.at + 1);
     }
+    r
 }
 
-// The next command.
-pub fn next_command<'a>(r: Reader<'a>) -> Command
+// A command of a known kind: its number is looked at, and then its term is read where one follows.
+#[tactic(auto, unfolding(crate::specs::Commands::read_by))]
+fn command_by(kind: Kind, number: u16, behind: Reader<'_>) -> Result<Command, Refusal>
+    ensures { result ≡ read_by (Some kind) number (drop behind.entry.at behind.entry.cells.now) }
+{
+    let act = kind.act;
+    if kind.zero && number != 0 {
+        return Err(Refusal::NumberNotZero);
+    }
+    if !kind.term {
+        return Ok(Command {
+            act,
+            number,
+            size: 0,
+        });
+    }
+    let size = reading::read(behind.cells, behind.at)?;
+    Ok(Command { act, number, size })
+}
+
+// The command that a cell begins, with the reader behind it.
+#[tactic(auto, unfolding(crate::specs::Commands::read_by))]
+fn command_of(c: u16, behind: Reader<'_>) -> Result<Command, Refusal>
+    ensures { result ≡ command_at c (drop behind.entry.at behind.entry.cells.now) }
+{
+    let kind = kinds::kind_of(c / 4096).ok_or(Refusal::UnknownKind)?;
+    command_by(kind, c % 4096, behind)
+}
+
+// The next command, or why it is refused; none at the end.
+pub fn next_command(r: Reader<'_>) -> Option<Result<Command, Refusal>>
     ensures { result ≡ command_in (drop r.entry.at r.entry.cells.now) }
 {
-    let next = next_cell(r);
-    let behind = moved_on(r);
-    command_of(next, behind.cells, behind.at)
+    let c = next_cell(r)?;
+    Some(command_of(c, moved_on(r)))
 }
 
 // The same for those who have the cells and the place apart.
-pub fn read_command(cells: &[u16], at: usize) -> Command
+pub fn read_command(cells: &[u16], at: usize) -> Option<Result<Command, Refusal>>
     ensures { result ≡ command_in (drop at cells.now) }
 {
     next_command(reader_at(cells, at))

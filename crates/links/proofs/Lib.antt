@@ -1,3 +1,2 @@
 -- What the proofs share.
-pub mod Leaping
 pub mod Beginning

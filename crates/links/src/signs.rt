@@ -6,6 +6,8 @@
 // A child that came in beside others has up to three: by its own cell, and where it is the first of its group, by the 16 or the 256
 // cells around it. Different keys may share a field, and then the later one has it.
 //
+// The words of the tree and of the signs are lent as two slices, parts of one book, as docs/CONTRACTS.md has it.
+//
 // A sign is a hint: who follows one looks first where it leads. So the check doesn't read them, removing a rule leaves them, and a
 // wrong one costs time and never an answer.
 ghost use Rattle.std.specs.Prelude.{◌≡◌, true, ◌≤◌, ◌<◌, length};
@@ -21,30 +23,53 @@ fn sign(p: u64, key: u64) -> usize
     layout::FIRST_SIGN + (spread * layout::SIGN_COUNT / 65536) as usize
 }
 
-// The keys for a cell, a symbol's, in the order in which they are tried: the cell; its group of 16 and the one before; its group
-// of 256 and the one before.
-fn key(c: u64, i: usize) -> u64 {
-    if i == 0 {
-        return c;
-    }
-    if i == 1 {
-        return 36864 + c % 65536 / 16;
-    }
-    if i == 2 {
-        return 36863 + c % 65536 / 16;
-    }
-    if i == 3 {
-        return 45056 + c % 65536 / 256;
-    }
-    45055 + c % 65536 / 256
+// What a sign goes by: a cell, a symbol's; its small group, of 16 cells, and the one before; its large group, of 256, and the one before.
+#[derive(Clone, Copy, Debug, PartialEq, Eq)]
+pub enum Key {
+    Cell,
+    Small,
+    SmallBefore,
+    Large,
+    LargeBefore,
 }
 
-// The lowest cell that is followed under a key.
-fn least(c: u64, i: usize) -> u64 {
-    if i == 0 {
-        return c;
+// In the order in which they are tried.
+const KEYS: [Key; 5] = [
+    Key::Cell,
+    Key::Small,
+    Key::SmallBefore,
+    Key::Large,
+    Key::LargeBefore,
+];
+
+impl Key {
+    // The key as a number, for the cell c.
+    fn number(self, c: u64) -> u64 {
+        match self {
+            Key::Cell => c,
+            Key::Small => 36864 + c % 65536 / 16,
+            Key::SmallBefore => 36863 + c % 65536 / 16,
+            Key::Large => 45056 + c % 65536 / 256,
+            Key::LargeBefore => 45055 + c % 65536 / 256,
+        }
     }
-    0
+
+    // The lowest cell that is followed under the key, for the cell c.
+    fn least(self, c: u64) -> u64 {
+        match self {
+            Key::Cell => c,
+            _ => 0,
+        }
+    }
+
+    // The first cell of the group of c under the key.
+    fn group_start(self, c: u64) -> u64 {
+        match self {
+            Key::Cell => c,
+            Key::Small => c / 16 * 16,
+            _ => c / 256 * 256,
+        }
+    }
 }
 
 // Does the link f lead to a sibling further on than the node with the word w, with a cell from `least` to `most`?
@@ -52,26 +77,16 @@ fn is_further(m: &[u64], w: u64, f: usize, least: u64, most: u64) -> bool
     requires { length m.now ≡ tree_words }
     ensures { result ≡ true → Further (shape m.now) w most f }
 {
-    if f == 0 {
-        return false;
-    }
-    if layout::LAST_LINK < f {
+    if f == 0 || layout::LAST_LINK < f {
         return false;
     }
     let v = m[layout::LINKS_AT + f];
-    if crate::parent_of(v) != crate::parent_of(w) {
-        return false;
-    }
-    if crate::cell_of(v) <= crate::cell_of(w) {
-        return false;
-    }
-    if most < crate::cell_of(v) {
-        return false;
-    }
-    if crate::cell_of(v) < least {
-        return false;
-    }
-    bits::is_marked(&m[0..layout::MAP_WORDS], f - 1)
+    let c = crate::cell_of(v);
+    crate::parent_of(v) == crate::parent_of(w)
+        && crate::cell_of(w) < c
+        && least <= c
+        && c <= most
+        && bits::is_marked(&m[0..layout::MAP_WORDS], f - 1)
 }
 
 // From the node x with the word w, which has a cell below c: to the sibling with the cell c, or to one not far before it, if a sign
@@ -81,18 +96,17 @@ pub fn known(m: &[u64], signs: &[u64], x: usize, w: u64, c: u64) -> usize
     requires signs_len { length signs.now ≡ sign_words }
     ensures { Leap (shape m.now) x w c result }
 {
-    let mut i: usize = 0;
-    while i < 5 {
-        let f = bits::field(signs, sign(crate::parent_of(w), key(c, i))) as usize;
-        if is_further(m, w, f, least(c, i), c) {
+    for key in KEYS {
+        let f = usize::from(bits::field(signs, sign(crate::parent_of(w), key.number(c))));
+        if is_further(m, w, f, key.least(c), c) {
             return f;
         }
-        i += 1;
     }
     x
 }
 
 // A child of p with a cell below c, close to it if a sign leads there, or 0: from there on the hook of c is looked for.
+// 0 for none, as in the links of the memory: `Before` reads it so.
 pub fn before(m: &[u64], signs: &[u64], p: usize, c: u64) -> usize
     requires ready { Ready m.now p }
     requires signs_len { length signs.now ≡ sign_words }
@@ -112,7 +126,7 @@ pub fn before(m: &[u64], signs: &[u64], p: usize, c: u64) -> usize
     known(m, signs, x, w, c - 1)
 }
 
-// What the parent of the node with the word w knows as its last child.
+// What the parent of the node with the word w knows as its last child. A field is a link of the memory, with 0 for none.
 fn last_beside(signs: &[u64], w: u64) -> usize
     requires { length signs.now ≡ sign_words }
 {
@@ -120,10 +134,11 @@ fn last_beside(signs: &[u64], w: u64) -> usize
     if layout::NODES_LIMIT < p {
         return 0;
     }
-    bits::field(signs, p) as usize
+    usize::from(bits::field(signs, p))
 }
 
-// From the node with the word w to the last child of its parent, which is the blank if there is one, or to the next sibling.
+// From the node with the word w to the last child of its parent, which is the blank if there is one, or to the next sibling, which is a
+// link of the memory, 0 for none.
 pub fn to_last(m: &[u64], signs: &[u64], w: u64) -> usize
     requires m_len { length m.now ≡ tree_words }
     requires signs_len { length signs.now ≡ sign_words }
@@ -144,8 +159,7 @@ pub fn highest(m: &[u64], last: usize) -> usize
     ensures { result ≤ last_link }
 {
     let mut l = last;
-    let mut steps: usize = 0;
-    while steps < 33 {
+    for _ in 0..33 {
         let w = m[layout::LINKS_AT + l];
         if crate::next_of(w) != 0 {
             return l;
@@ -161,12 +175,11 @@ pub fn highest(m: &[u64], last: usize) -> usize
             return l;
         }
         l = p;
-        steps += 1;
     }
     l
 }
 
-// The link whose last child the node `at` is, or a field that nobody reads.
+// The link whose last child the node `at` is, or a field that nobody reads: a sign is stored there with no test.
 pub fn list_ended(m: &[u64], at: usize) -> usize
     requires m_len { length m.now ≡ tree_words }
     requires at_le_last_link { at ≤ last_link }
@@ -183,9 +196,10 @@ pub fn list_ended(m: &[u64], at: usize) -> usize
     p
 }
 
-// The field of the sign under the key i for the new node `at`, or one that nobody reads, where it has none: rules have none, and
-// the sign of a group stays with its first child. That is one further on than a node with the same parent and the cell 0.
-pub fn field_for(m: &[u64], signs: &[u64], at: usize, i: usize) -> usize
+// The field of the sign under a key for the new node `at`, or, as in `list_ended`, one that nobody reads, where it has none: rules
+// have none, and the sign of a group stays with its first child. That is one further on than a node with the same parent and the
+// cell 0.
+pub fn field_for(m: &[u64], signs: &[u64], at: usize, key: Key) -> usize
     requires m_len { length m.now ≡ tree_words }
     requires signs_len { length signs.now ≡ sign_words }
     requires at_le_last_link { at ≤ last_link }
@@ -196,21 +210,10 @@ pub fn field_for(m: &[u64], signs: &[u64], at: usize, i: usize) -> usize
     }
     let w = m[layout::LINKS_AT + at];
     let c = crate::cell_of(w);
-    let k = sign(crate::parent_of(w), key(c, i));
-    let f = bits::field(signs, k) as usize;
-    if is_further(m, w % 281474976710656, f, group_start(c, i), c) {
+    let k = sign(crate::parent_of(w), key.number(c));
+    let f = usize::from(bits::field(signs, k));
+    if is_further(m, w % crate::CELL, f, key.group_start(c), c) {
         return layout::NO_SIGN;
     }
     k
-}
-
-// The first cell of the group of c under the key i.
-fn group_start(c: u64, i: usize) -> u64 {
-    if i == 0 {
-        return c;
-    }
-    if i == 1 {
-        return c / 16 * 16;
-    }
-    c / 256 * 256
 }

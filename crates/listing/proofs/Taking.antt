@@ -1,12 +1,11 @@
 -- The record that stands at a place in the cells, as the code takes it: no more cells than there are.
-use Rattle.std.proofs.Common.{◌≡◌, refl, sym, ap, ap₂, ◌∙◌, List, ◌∷◌, Bool, true, false, ℕ, ◌+◌, ◌-◌, ◌/◌, ◌%◌, ◌<◌, min, arith, length, take, drop, get_or, length-drop}
+use Rattle.std.proofs.Common.{◌≡◌, refl, sym, ap, ap₂, ◌∙◌, List, ◌∷◌, Bool, true, false, ℕ, ◌/◌, ◌%◌, min, arith, length, take, drop}
 use Rattle.std.proofs.Math.ListN.{drop_of_length-le}
-use Rattle.std.proofs.Math.Seq.{take_all, take-length, drop-length, drop-drop}
+use Rattle.std.proofs.Math.Seq.{take_all, take-length, drop-length}
 use Rattle.std.specs.Prelude.{leb}
 use borrow.Author.Tests.{leb-true, leb-false}
 use Rattle.listing.specs.Listing.{records_in}
 use Rattle.listing.specs.Reading.{first_record}
-use Rattle.writing.specs.Putting.{one_more}
 
 -- taking and passing more cells than there are
 at_most : (n : ℕ) (l : List ℕ) → (take n l ≡ take (min n (length l)) l) × (drop n l ≡ drop (min n (length l)) l)
@@ -32,12 +31,11 @@ first_of first n rest e =
     let left : drop (first % 4096) rest ≡ drop n rest = (at_most (first % 4096) rest).1 ∙ ap (λ (k : ℕ). drop k rest) (sym e) in
     first_record first rest ∙ ap₂ (λ (t l : List ℕ). record { refusal = first / 4096; cells = t } ∷ records_in l) taken left
 
-pub record_at : (cells : List ℕ) (place n : ℕ) → place < length cells → n ≡ min (get_or cells place 0 % 4096) (length cells - (place + 1))
-    → records_in (drop place cells)
-    ≡ record { refusal = get_or cells place 0 / 4096; cells = take (place + 1 + n - (place + 1)) (drop (place + 1) cells) } ∷ records_in (drop (place + 1 + n) cells)
-record_at cells place n h e =
-    let t : n ≡ place + 1 + n - (place + 1) = omega arith in
-    ap records_in (one_more cells place h)
-    ∙ first_of (get_or cells place 0) n (drop (place + 1) cells) (e ∙ ap (min (get_or cells place 0 % 4096)) (sym (length-drop (place + 1) cells)))
-    ∙ ap₂ (λ (k : ℕ) (l : List ℕ). record { refusal = get_or cells place 0 / 4096; cells = take k (drop (place + 1) cells) } ∷ records_in l) t
-    (drop-drop n (place + 1) cells)
+-- the same where the code took it apart
+pub record_at : {rest behind cells others : List ℕ} {first n refusal : ℕ} → rest ≡ first ∷ behind → n ≡ min (first % 4096) (length behind)
+    → cells ≡ take n behind → others ≡ drop n behind → refusal ≡ first / 4096
+    → records_in rest ≡ record { refusal = refusal; cells = cells } ∷ records_in others
+record_at {behind = behind} {cells = cells} {others = others} {first = first} {n = n} {refusal = refusal} r e t o f =
+    ap records_in r ∙ first_of first n behind e
+    ∙ ap₂ (λ (k : ℕ) (l : List ℕ). record { refusal = k; cells = l } ∷ records_in (drop n behind)) (sym f) (sym t)
+    ∙ ap (λ (l : List ℕ). record { refusal = refusal; cells = cells } ∷ records_in l) (sym o)

@@ -1,6 +1,7 @@
 -- The decimal digits of a number from those of a tenth of it.
 use Rattle.std.specs.Prelude.{◌≡◌, refl, List, [], ◌∷◌, ◌++◌, Bool, true, false, ℕ, zero, suc, ◌+◌, ◌/◌, ◌%◌, ◌≤◌, ◌<◌, ltb}
-use Rattle.std.proofs.Common.{ap, ◌∙◌, arith, lt-ltb, le-ltb, ltb-false}
+use Rattle.std.proofs.Common.{sym, ap, ◌∙◌, arith, lt-ltb, le-ltb, ltb-false}
+use Rattle.std.proofs.lemmas.Fmt.{AppendsLastDigit, decimal_from_appends, length-decimal-le_succ}
 use Rattle.deciding.specs.Deciding.{pick}
 use Rattle.listing.specs.Listing.{digits, decimal}
 
@@ -27,3 +28,14 @@ unfolding digits
 more_digits n h =
     ap (λ (b : Bool). pick b [] (digits n (n / 10)) ++ ((48 + n % 10) ∷ [])) (le-ltb n 10 h)
     ∙ ap (λ (l : List ℕ). l ++ ((48 + n % 10) ∷ [])) (same_digits n (suc (n / 10)) (n / 10) (omega arith) (omega arith))
+
+-- what the library prints of a number of 64 bits
+appends : AppendsLastDigit digits
+unfolding digits
+appends = record {
+  one = λ k n h. ap (λ (b : Bool). pick b [] (digits k (n / 10)) ++ ((48 + n % 10) ∷ [])) (lt-ltb n 10 h) ∙ ap (λ (d : ℕ). (48 + d) ∷ []) (let e : n % 10 ≡ n = omega arith in e);
+  more = λ k n h. ap (λ (b : Bool). pick b [] (digits k (n / 10)) ++ ((48 + n % 10) ∷ [])) (le-ltb n 10 h);
+}
+
+pub printed : (n : ℕ) → n < 18446744073709551616 → Rattle.std.specs.Fmt.decimal n ≡ decimal n
+printed n h = sym (decimal_from_appends digits appends (suc n) n h (omega (arith, length-decimal-le_succ n h)))

@@ -2,6 +2,7 @@
 pub mod Listing
 pub mod Examples
 pub mod Digits
+pub mod Hex
 pub mod Reading
 pub mod Sizes
 pub mod Promises

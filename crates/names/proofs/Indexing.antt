@@ -1,13 +1,14 @@
 -- The index, slot by slot: the new slot is the last of its bucket, and its link leads to the one that was.
 use mathlib.Core.Path.{◌≡◌, sym, ap, subst, ◌∙◌}
-use mathlib.Core.List.{List}
+use mathlib.Core.List.{List, ◌++◌}
 use Prim.Native.Nat.{ℕ, ◌+◌, ◌-◌, ◌*◌, ◌≤◌, ◌<◌}
 use native.Mathlib.Decide.{ℕ_discrete, dec_lt}
 use native.Mathlib.Omega.{arith}
-use lib.ListN.{length, get_or, take, drop, set, length-set, length-take, length-drop}
+use lib.ListN.{length, get_or, take, drop, set, replicate, length-set, length-take, length-drop, length-append, length-replicate, get_or-append}
 use lib.Seq.{ext_get_or, get_or-take, get_or-drop, get_or-set_same, get_or-set_other}
 use Rattle.names.specs.Index.{bucket_of, bucket_at, Last, Indexed}
 use Rattle.names.specs.Leaves.{Says}
+use Rattle.names.specs.Slots.{zero_at}
 
 -- A slot that says a name has the name's bucket.
 pub says_bucket : (t : List ℕ) (k : ℕ) (name : List ℕ) → 32 * k + 32 ≤ length t → length name < 32 → Says t k name → bucket_at t k ≡ bucket_of name
@@ -17,14 +18,19 @@ says_bucket t k name l short s =
     ap bucket_of (ext_get_or 0 (take n (drop (32 * k + 1) t)) name size
     (λ i m. get_or-take n (drop (32 * k + 1) t) i 0 (omega (arith, s.size)) ∙ get_or-drop (32 * k + 1) t i 0 ∙ s.bytes i (omega arith)))
 
-pub indexed_none : (t index : List ℕ) → length index ≡ 2048 → ((h : ℕ) → h < 1024 → get_or index h 0 ≡ 0) → Indexed t 0 index
-indexed_none t index size z = record {
-  size = size;
-  most = omega arith;
-  inside = omega arith;
-  heads = λ h l. let e = z h l in record { within = omega arith; here = λ p. absurd (omega arith); none = λ k a b. absurd (omega arith) };
-  links = λ k l. absurd (omega arith);
-}
+-- Heads of 0 are the index of no slots, whatever the links are.
+pub indexed_none : (t index heads : List ℕ) → length index ≡ 2048 → heads ≡ replicate (length (take 1024 index)) 0 → Indexed t 0 (heads ++ drop 1024 index)
+indexed_none t index heads size e =
+    let most : length heads ≡ 1024 = omega (arith, ap length e, length-replicate {A = ℕ} (length (take 1024 index)) 0, length-take 1024 index) in
+    let zeros : (h : ℕ) → h < 1024 → get_or (heads ++ drop 1024 index) h 0 ≡ 0 =
+    λ h l. get_or-append heads (drop 1024 index) 0 h (omega arith) ∙ ap (λ (x : List ℕ). get_or x h 0) e ∙ zero_at (length (take 1024 index)) h in
+    record {
+      size = omega (arith, length-append heads (drop 1024 index), length-drop 1024 index);
+      most = omega arith;
+      inside = omega arith;
+      heads = λ h l. let z = zeros h l in record { within = omega arith; here = λ p. absurd (omega arith); none = λ k a b. absurd (omega arith) };
+      links = λ k l. absurd (omega arith);
+    }
 
 module _ (t index : List ℕ) (s h : ℕ) (x : Indexed t s index) (few : s < 1024) (room : 32 * s + 32 ≤ length t) (low : h < 1024) (here : bucket_at t s ≡ h) where
   abbrev linked : List ℕ
@@ -82,11 +88,6 @@ pub record Chain (t : List ℕ) (held : ℕ) (name : List ℕ) (h next : ℕ) : 
 module _ (t index : List ℕ) (held : ℕ) (x : Indexed t held index) (name : List ℕ) (short : length name < 32) (h : ℕ) (e : h ≡ bucket_of name) where
   said : (k : ℕ) → k < held → Says t k name → bucket_at t k ≡ h
   said k l s = says_bucket t k name (omega (arith, x.inside)) short s ∙ sym e
-
-  pub chain_starts : (next : ℕ) → next ≡ get_or index h 0 → Chain t held name h next
-  chain_starts next f =
-      let old = x.heads h (omega arith) in
-      subst (Chain t held name h) (sym f) (record { within = old.within; here = old.here; past = λ k a b s. old.none k a b (said k b s) })
 
   -- One slot is compared, and its link leads further down.
   pub chain_on : (next new : ℕ) → Chain t held name h next → (next ≡ 0 → ⊥) → (Says t (next - 1) name → ⊥) → new ≡ get_or index (1024 + (next - 1)) 0 → Chain t held name h new

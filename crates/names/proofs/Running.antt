@@ -6,14 +6,16 @@ use Prim.Native.Nat.{ℕ, suc, ◌+◌, ◌-◌, ◌*◌, ◌≤◌, ◌<◌}
 use native.Mathlib.Omega.{arith}
 use native.Mathlib.Decide.{dec_lt}
 use lib.ListN.{length, get_or, take, drop, replicate, take-append-drop, length-append, length-replicate, length-drop, get_or-append}
+use Rattle.std.proofs.lemmas.List.{get_or_past, take_rest}
 use lib.Seq.{drop-drop, get_or-drop, ext_get_or}
 use Rattle.names.specs.Table.{Missing, slot_of, slots_of, Holds, Passes}
 use Rattle.names.specs.Calls.{Counts}
-use Rattle.names.specs.Index.{bucket_of, bucket_at}
+use Rattle.names.specs.Index.{bucket_of, bucket_at, Indexed}
 use Rattle.names.specs.Leaves.{AllZero, Used, Says, Finds, UsedTo, Ends}
+use Rattle.std.specs.Prelude.{true, false, Option, Some, None, is_some}
 use Rattle.names.specs.Slots.{slot_once, slots_append, slots_length, slot_used, slot_byte, slot_first, slot_name, zeros_are, byte_free}
 use Rattle.names.specs.Entering.{more_length, more_named, more_apart, slot_holds}
-use Rattle.names.proofs.Using.{part_of, rest_is}
+use Rattle.names.proofs.Using.{part_of}
 
 slot_after : (name : List ℕ) (i : ℕ) → get_or (slot_of name) (1 + i) 0 ≡ get_or (name ++ replicate (31 - length name) 0) i 0
 unfolding slot_of
@@ -65,6 +67,9 @@ module _ (t : List ℕ) (s n : ℕ) (first : n ≡ get_or t (32 * s) 0) (some : 
     pub size_is : n ≡ length u.name
     size_is = first ∙ slot_first t s u.name slot_is_used
 
+    pub size_short : n ≤ 31
+    size_short = let short = u.named.short in omega (arith, size_is)
+
     pub name_is : name_here t s n ≡ u.name
     name_is =
         part_of t (32 * s + 1) n ∙ ap (λ (m : ℕ). take m (drop (32 * s + 1) t)) size_is ∙ slot_name t s u.name slot_is_used u.named.short
@@ -89,10 +94,10 @@ module _ (t : List ℕ) (s n : ℕ) (first : n ≡ get_or t (32 * s) 0) (some : 
           ap (λ (x : List ℕ). take 32 (drop (32 * k) x)) b.written ∙ slot_used b.names (drop (32 * s) t) k b.named (omega (arith, b.count))
 
       -- No earlier slot says the same.
-      pub new_name : (r : ℕ) → Finds t s (name_here t s n) r → s ≤ r → Missing b.names (name_here t s n)
-      new_name r d m k l e =
+      pub new_name : ((k : ℕ) → k < s → Says t k (name_here t s n) → ⊥) → Missing b.names (name_here t s n)
+      new_name none k l e =
           let j : k < s = omega (arith, b.count) in
-          d.none m k j (own_says t k (get_or b.names k []) (held_slot k j) (b.named k l).short (name_here t s n) e)
+          none k j (own_says t k (get_or b.names k []) (held_slot k j) (b.named k l).short (name_here t s n) e)
 
       -- One slot more.
       pub begins_more : Missing b.names (name_here t s n) → UsedTo t (s + 1)
@@ -113,10 +118,23 @@ module _ (t : List ℕ) (s n : ℕ) (first : n ≡ get_or t (32 * s) 0) (some : 
             apart = more_apart b.names u.name b.apart (subst (Missing b.names) name_is m);
           }
 
+-- What a search among the earlier slots found.
+pub found_twice : (t : List ℕ) (s : ℕ) (name : List ℕ) (found : Option ℕ) → Finds t s name found → is_some found ≡ true → (k : ℕ) × (k < s) × Says t k name
+found_twice t s name (Some k) d e = (k, d.0, d.1)
+found_twice t s name None d e = absurd (cc)
+
+pub found_none : (t : List ℕ) (s : ℕ) (name : List ℕ) (found : Option ℕ) → Finds t s name found → is_some found ≡ false → (k : ℕ) → k < s → Says t k name → ⊥
+found_none t s name (Some k) d e = absurd (cc)
+found_none t s name None d e = d
+
 -- Before the first slot.
 pub begins_none : (t : List ℕ) → UsedTo t 0
 unfolding slots_of
 begins_none t = record { names = []; count = refl; written = refl; named = λ k l. absurd (omega arith); apart = λ j k l m. absurd (omega arith) }
+
+-- Each slot is used: past the end of the table a byte reads as 0.
+pub ends_full : (t index : List ℕ) (slots s : ℕ) → length t ≡ 32 * slots → s ≡ slots → UsedTo t s → Indexed t s index → Ends t index slots slots
+ends_full t index slots s size e b x = subst (Ends t index slots) e (record { begins = b; indexed = x; within = omega arith; ends = get_or_past t (32 * s) 0 (omega arith) })
 
 -- The length of a table that passes.
 pub length_is : {t : List ℕ} {names : List (List ℕ)} {free : ℕ} → Holds t names free → length t ≡ 32 * (length names + free)
@@ -134,7 +152,7 @@ module _ (t index : List ℕ) (slots held : ℕ) (size : length t ≡ 32 * slots
       let b = e.begins in
       let w = e.within in
       let free : length (drop (32 * held) t) ≡ 32 * (slots - held) = simp length-drop (omega arith) in
-      let zeros = zeros_are (drop (32 * held) t) (λ i. ap (λ (x : List ℕ). get_or x i 0) (sym (rest_is t (32 * held))) ∙ z i) in
+      let zeros = zeros_are (drop (32 * held) t) (λ i. ap (λ (x : List ℕ). get_or x i 0) (sym (take_rest t (32 * held))) ∙ z i) in
       record {
         names = b.names;
         holds = record {
@@ -161,5 +179,5 @@ module _ (t index : List ℕ) (slots held : ℕ) (size : length t ≡ 32 * slots
   broken_rest f p =
       let h = p.holds in
       let few = no_more p in
-      f (λ i. ap (λ (x : List ℕ). get_or x i 0) (rest_is t (32 * held)) ∙ get_or-drop (32 * held) t i 0
+      f (λ i. ap (λ (x : List ℕ). get_or x i 0) (take_rest t (32 * held)) ∙ get_or-drop (32 * held) t i 0
       ∙ ap (λ (x : List ℕ). get_or x (32 * held + i) 0) h.written ∙ byte_free p.names p.free (32 * held + i) h.named (omega arith))

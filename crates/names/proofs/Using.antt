@@ -2,24 +2,48 @@
 use mathlib.Core.Path.{◌≡◌, refl, sym, ap, subst, ◌∙◌}
 use mathlib.Core.List.{List}
 use mathlib.Core.Bool.{Bool}
-use Prim.Native.Nat.{ℕ, ◌+◌, ◌-◌, ◌≤◌, ◌<◌}
+use Prim.Native.Nat.{ℕ, ◌+◌, ◌-◌, ◌*◌, ◌≤◌, ◌<◌}
 use native.Mathlib.Omega.{arith}
 use native.Mathlib.Numerals.{add-one}
-use lib.ListN.{length, get_or, take, drop, replicate, length-drop}
-use lib.Seq.{take_all, drop_at}
-use Rattle.deciding.specs.Deciding.{Decides}
+use lib.ListN.{length, get_or, take, drop, replicate, length-drop, length-take}
+use Rattle.std.proofs.lemmas.List.{take_rest}
+use lib.Seq.{drop_at, get_or-take, get_or-drop, ext_get_or}
+use Rattle.std.specs.Bool.{Decides as Tells}
+use Rattle.deciding.specs.Deciding.{Decides, true_not_false}
 use Rattle.names.specs.Name.{IsName}
 use Rattle.names.specs.Table.{slot_of}
-use Rattle.names.specs.Leaves.{AllZero, Used}
-use Rattle.names.specs.Slots.{name_inside, name_in, slot_is, zero_at}
-
--- A part from a to the end, as the code has it.
-pub rest_is : (s : List ℕ) (a : ℕ) → take (length s - a) (drop a s) ≡ drop a s
-rest_is s a = take_all (length s - a) (drop a s) (simp length-drop (omega arith))
+use Rattle.names.specs.Leaves.{AllZero, Used, Says}
+use Rattle.names.specs.Slots.{name_inside, name_in, slot_is, zero_at, zero_past}
 
 -- A part of n elements, as the code has it.
 pub part_of : (s : List ℕ) (a n : ℕ) → take (a + n - a) (drop a s) ≡ take n (drop a s)
 part_of s a n = let e : a + n - a ≡ n = omega arith in ap (λ (m : ℕ). take m (drop a s)) e
+
+-- What is 0 at each index below the length is 0 at each.
+pub zero_within : (s : List ℕ) (b : Bool) → Decides ((i : ℕ) → i < length s → get_or s i 0 ≡ 0) b → Decides (AllZero s) b
+zero_within s b d = record { yes = λ e. zero_past s (d.yes e); no = λ e z. d.no e (λ i l. z i) }
+
+-- A slot whose first byte is a name's length says the name where its bytes are the name's.
+pub says_where : (t : List ℕ) (k : ℕ) (name : List ℕ) (b : Bool) → Tells b (take (32 * k + 1 + length name - (32 * k + 1)) (drop (32 * k + 1) t) ≡ name)
+    → get_or t (32 * k) 0 ≡ length name → 32 * k + 32 ≤ length t → length name < 32 → Decides (Says t k name) b
+says_where t k name b d first room short = record { yes = λ e. yes (d.0 e); no = λ e s. true_not_false (d.1 (same s)) e }
+  where
+    part : List ℕ
+    part = take (length name) (drop (32 * k + 1) t)
+
+    is_part : take (32 * k + 1 + length name - (32 * k + 1)) (drop (32 * k + 1) t) ≡ part
+    is_part = part_of t (32 * k + 1) (length name)
+
+    byte : (i : ℕ) → i < length name → get_or part i 0 ≡ get_or t (32 * k + 1 + i) 0
+    byte i l = get_or-take (length name) (drop (32 * k + 1) t) i 0 l ∙ get_or-drop (32 * k + 1) t i 0
+
+    yes : take (32 * k + 1 + length name - (32 * k + 1)) (drop (32 * k + 1) t) ≡ name → Says t k name
+    yes e = record { size = first; bytes = λ i l. sym (byte i l) ∙ ap (λ (x : List ℕ). get_or x i 0) (sym is_part ∙ e) }
+
+    same : Says t k name → take (32 * k + 1 + length name - (32 * k + 1)) (drop (32 * k + 1) t) ≡ name
+    same s =
+        let size : length part ≡ length name = simp (length-take, length-drop) (omega arith) in
+        is_part ∙ ext_get_or 0 part name size (λ i l. byte i (omega arith) ∙ s.bytes i (omega arith))
 
 first_is : (name : List ℕ) → get_or (slot_of name) 0 0 ≡ length name
 unfolding slot_of
@@ -47,7 +71,7 @@ module _ (s : List ℕ) (size : length s ≡ 32) (n : ℕ) (first : n ≡ get_or
 
   zeros_after : Used s → AllZero (take (length s - (n + 1)) (drop (n + 1) s))
   zeros_after u i =
-      ap (λ (x : List ℕ). get_or x i 0) (rest_is s (n + 1) ∙ ap (drop (n + 1)) u.written ∙ ap (λ (m : ℕ). drop (m + 1) (slot_of u.name)) (length_is u)) ∙ after_name u.name i
+      ap (λ (x : List ℕ). get_or x i 0) (take_rest s (n + 1) ∙ ap (drop (n + 1)) u.written ∙ ap (λ (m : ℕ). drop (m + 1) (slot_of u.name)) (length_is u)) ∙ after_name u.name i
 
   module _ (short : n < 32) (named : IsName (take (n + 1 - 1) (drop 1 s))) where
     made : AllZero (take (length s - (n + 1)) (drop (n + 1) s)) → Used s
@@ -57,7 +81,7 @@ module _ (s : List ℕ) (size : length s ≡ 32) (n : ℕ) (first : n ≡ get_or
         record {
           name = take n (drop 1 s);
           named = subst IsName part named;
-          written = slot_is s n size (sym first) (omega arith) (λ i. ap (λ (x : List ℕ). get_or x i 0) (sym (rest_is s (n + 1))) ∙ z i);
+          written = slot_is s n size (sym first) (omega arith) (λ i. ap (λ (x : List ℕ). get_or x i 0) (sym (take_rest s (n + 1))) ∙ z i);
         }
 
     pub used_if : (b : Bool) → Decides (AllZero (take (length s - (n + 1)) (drop (n + 1) s))) b → Decides (Used s) b

@@ -3,32 +3,35 @@ use mathlib.Core.Path.{◌≡◌, sym, ap, ap₂, ◌∙◌}
 use mathlib.Core.List.{List, [], ◌∷◌, ◌++◌, append_assoc}
 use Prim.Native.Nat.{ℕ, suc, ◌+◌, ◌-◌, ◌*◌, ◌≤◌, ◌<◌}
 use native.Mathlib.Omega.{arith}
-use native.Mathlib.Decide.{dec_lt}
+use Prim.{tt}
+use Rattle.std.specs.Prelude.{Option, Some, None, IfSome, Result}
 use lib.ListN.{length, get_or, take, drop, set, replicate, replicate-append-replicate}
 use lib.Seq.{paste, set-append_seam, take-append-add, take-length, take_at, drop-append-add}
+use Rattle.std.proofs.lemmas.List.{drop-replicate}
 use Rattle.names.specs.Table.{Missing, slot_in, slot_of, slots_of, put, Holds}
-use Rattle.names.specs.Calls.{Appended, Part, PartOf, bad_table, no_number, at, start_of_part, size_of_part}
+use Rattle.names.specs.Calls.{Appended, LooksUp, Part, Refusal, PartOf, bad_table, no_number, at, start_of_part, size_of_part}
 use Rattle.names.specs.Cases.{slot_of_it, slot_missing}
-use Rattle.names.specs.Leaves.{Finds}
+use Rattle.names.specs.Leaves.{Says, Finds}
 use Rattle.names.specs.Slots.{slots_append, slots_length}
-use Rattle.names.specs.Entering.{slot_holds, put_is, drop_zeros}
+use Rattle.names.specs.Entering.{slot_holds, put_is}
 use Rattle.names.proofs.Running.{says_own, own_says, length_is}
 
-module _ {t : List ℕ} {names : List (List ℕ)} {free : ℕ} (h : Holds t names free) (held : ℕ) (count : length names ≡ held) (name : List ℕ) (r : ℕ) (d : Finds t held name r) where
-  pub found_name : r < held → get_or names r [] ≡ name
-  found_name l =
-      let k : r < length names = omega arith in
-      says_own t r (get_or names r []) (slot_holds h r k) (h.named r k).short name (d.here l)
+module _ {t : List ℕ} {names : List (List ℕ)} {free : ℕ} (h : Holds t names free) (held : ℕ) (count : length names ≡ held) (name : List ℕ) where
+  pub found_some : (slot : ℕ) → slot < held → Says t slot name → slot ≡ slot_in names name
+  found_some slot l s =
+      let k : slot < length names = omega arith in
+      let there : get_or names slot [] ≡ name = says_own t slot (get_or names slot []) (slot_holds h slot k) (h.named slot k).short name s in
+      sym (slot_of_it names slot name h.apart k there)
 
-  pub found_none : held ≤ r → Missing names name
-  found_none m k l e = d.none m k (omega arith) (own_says t k (get_or names k []) (slot_holds h k l) (h.named k l).short name e)
+  pub found_none : ((k : ℕ) → k < held → Says t k name → ⊥) → held ≡ slot_in names name
+  found_none none =
+      let missing : Missing names name = λ k l e. none k (omega arith) (own_says t k (get_or names k []) (slot_holds h k l) (h.named k l).short name e) in
+      sym count ∙ sym (slot_missing names name missing)
 
-  pub found_slot : r ≡ slot_in names name
-  found_slot = go (dec_lt r held)
-    where
-      go : Dec (r < held) → r ≡ slot_in names name
-      go (yes l) = sym (slot_of_it names r name h.apart (omega arith) (found_name l))
-      go (no l) = let all = d.within in let last : r ≡ length names = omega arith in last ∙ sym (slot_missing names name (found_none (omega arith)))
+-- What a search among the slots finds is the name's slot, and none only where there is none.
+pub looked_up : (t : List ℕ) (held : ℕ) (name : List ℕ) (found : Option ℕ) → Finds t held name found → IfSome found (λ slot. slot < held) × LooksUp t held name found
+looked_up t held name (Some slot) d = (d.0, λ names free h count. found_some h held count name slot d.0 d.1)
+looked_up t held name None d = (tt, λ names free h count. found_none h held count name d)
 
 -- A name's length and bytes written over zeros.
 written_zeros : (a name : List ℕ) (m : ℕ) → paste (set (a ++ replicate (suc (length name + m)) 0) (length a) (length name)) (length a + 1) name
@@ -37,10 +40,11 @@ written_zeros a name m =
     let n = length name in
     let r : List ℕ = replicate (n + m) 0 in
     let past : length a + 1 + n ≡ length a + suc n = omega arith in
+    let left : n + m - n ≡ m = omega arith in
     ap (λ (d : List ℕ). paste d (length a + 1) name n) (set-append_seam a 0 r n)
     ∙ ap (λ (x : List ℕ). x ++ take n name ++ drop (length a + 1 + n) (a ++ n ∷ r)) (take-append-add a (n ∷ r) 1)
     ∙ ap (λ (x : List ℕ). (a ++ (n ∷ [])) ++ x ++ drop (length a + 1 + n) (a ++ n ∷ r)) (take-length name)
-    ∙ ap (λ (x : List ℕ). (a ++ (n ∷ [])) ++ name ++ x) (ap (λ (i : ℕ). drop i (a ++ n ∷ r)) past ∙ drop-append-add a (n ∷ r) (suc n) ∙ drop_zeros n m)
+    ∙ ap (λ (x : List ℕ). (a ++ (n ∷ [])) ++ name ++ x) (ap (λ (i : ℕ). drop i (a ++ n ∷ r)) past ∙ drop-append-add a (n ∷ r) (suc n) ∙ drop-replicate n (n + m) 0 ∙ ap (λ (i : ℕ). replicate i 0) left)
     ∙ append_assoc (a ++ (n ∷ [])) name (replicate m 0) ∙ append_assoc a (n ∷ []) (name ++ replicate m 0)
 
 -- Over the first free slot of a passing table, this is `put`.
@@ -79,19 +83,19 @@ names_copied {t} {o} {held} {count} {names} {new} {free} {room} a =
     (slots_of new) (replicate (32 * room) 0) (32 * count) more in
     let front : take (32 * held) t ≡ slots_of names = ap (take (32 * held)) h.written ∙ take_at (slots_of names) zeros (32 * held) size in
     let past : 32 * held + length (slots_of new) ≡ length (slots_of names) + 32 * count = omega arith in
-    let split : 32 * free ≡ 32 * count + 32 * (free - count) = let f = a.fits in omega arith in
+    let left : 32 * free - 32 * count ≡ 32 * (free - count) = let f = a.fits in omega arith in
     let rest : drop (32 * held + length (slots_of new)) t ≡ replicate (32 * (free - count)) 0 =
     ap₂ (λ (i : ℕ) (l : List ℕ). drop i l) past h.written ∙ drop-append-add (slots_of names) zeros (32 * count)
-    ∙ ap (λ (i : ℕ). drop (32 * count) (replicate i 0)) split ∙ drop_zeros (32 * count) (32 * (free - count)) in
+    ∙ drop-replicate (32 * count) (32 * free) 0 ∙ ap (λ (i : ℕ). replicate i 0) left in
     ap (λ (s : List ℕ). paste t (32 * held) s (length s)) part ∙ ap₂ (λ (x y : List ℕ). x ++ take (length (slots_of new)) (slots_of new) ++ y) front rest
     ∙ ap (λ (x : List ℕ). slots_of names ++ x ++ replicate (32 * (free - count)) 0) (take-length (slots_of new))
     ∙ ap (λ (x : List ℕ). x ++ replicate (32 * (free - count)) 0) (sym (slots_append names new))
 
 -- A part lies within the table.
-pub part_inside : (t : List ℕ) (number : ℕ) (p : Part) → PartOf t number p → start_of_part p + size_of_part p ≤ length t
-part_inside t number p (bad_table f) = let e : 0 + 0 ≤ length t = omega arith in e
-part_inside t number p (no_number h l) = let e : 0 + 0 ≤ length t = omega arith in e
-part_inside t number p (at {start = start} {size = size} h l s z) =
+pub part_inside : (t : List ℕ) (number : ℕ) (p : Result Part Refusal) → PartOf t number p → start_of_part p + size_of_part p ≤ length t
+part_inside t number p (bad_table f) = omega arith
+part_inside t number p (no_number h l) = omega arith
+part_inside t number p (at {part = part} h l s z) =
     let short = (h.named number l).short in
-    let e : start + size ≤ length t = omega (arith, length_is h) in
+    let e : part.start + part.size ≤ length t = omega (arith, length_is h) in
     e

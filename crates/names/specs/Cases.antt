@@ -1,19 +1,19 @@
 -- The answer of `enter` case by case: exactly when each is given. That `entry_in` computes it so is read off in proofs/Cases.
-use Rattle.std.specs.Prelude.{◌≡◌, refl, Bool, true, false, List, [], ◌∷◌, ◌++◌, ℕ, zero, suc, ◌+◌, ◌-◌, ◌≤◌, ◌<◌, eqb, leb, ltb, length, get_or}
+use Rattle.std.specs.Prelude.{◌≡◌, refl, Bool, true, false, List, [], ◌∷◌, ◌++◌, ℕ, zero, suc, ◌+◌, ◌-◌, ◌≤◌, ◌<◌, eqb, leb, ltb, length, get_or, Result, Ok, Err}
 use Rattle.std.proofs.Common.{sym, ap, ap₂, ◌∙◌, arith, ltb-true, ltb-false, leb-true, leb-false, eq-eqb, eqb-true}
 use Rattle.std.proofs.lemmas.Bool.{eqb-false}
 use Rattle.deciding.specs.Deciding.{Decides, pick}
 use Rattle.names.specs.Name.{IsName, printed, passes_as_name}
 use Rattle.names.specs.Table.{Apart, Missing, same, slot_in, Holds, Passes}
-use Rattle.names.specs.Calls.{Entry, Held, New, NoTable, NoName, NoSlot, entry_in, table_after, Enters, entered, no_table}
+use Rattle.names.specs.Calls.{Entry, Held, New, Refusal, NoTable, NoName, NoSlot, entry_in, table_after, Enters, entered, no_table}
 
 -- Exactly when `enter` gives each answer, in the order 1, 11, held, 12.
-pub data Given (table name : List ℕ) : Entry → Type 0 where
-  failing : (Passes table → ⊥) → Given table name NoTable
-  no_name : Passes table → (IsName name → ⊥) → Given table name NoName
-  held : {names : List (List ℕ)} {free k : ℕ} → Holds table names free → k < length names → get_or names k [] ≡ name → Given table name (Held k)
-  new : {names : List (List ℕ)} {free k : ℕ} → Holds table names free → IsName name → Missing names name → 0 < free → k ≡ length names → Given table name (New k)
-  no_slot : {names : List (List ℕ)} → Holds table names 0 → IsName name → Missing names name → Given table name NoSlot
+pub data Given (table name : List ℕ) : Result Entry Refusal → Type 0 where
+  failing : (Passes table → ⊥) → Given table name (Err NoTable)
+  no_name : Passes table → (IsName name → ⊥) → Given table name (Err NoName)
+  held : {names : List (List ℕ)} {free k : ℕ} → Holds table names free → k < length names → get_or names k [] ≡ name → Given table name (Ok (Held k))
+  new : {names : List (List ℕ)} {free k : ℕ} → Holds table names free → IsName name → Missing names name → 0 < free → k ≡ length names → Given table name (Ok (New k))
+  no_slot : {names : List (List ℕ)} → Holds table names 0 → IsName name → Missing names name → Given table name (Err NoSlot)
 
 wrong : {P : Type 0} → true ≡ false → P
 wrong e = absurd (let z : ◌≡◌ {A = ℕ} 0 1 = cc in omega arith)
@@ -166,11 +166,11 @@ slot_right (x ∷ names) others name l = go (same x name) refl l (slot_right nam
 -- ---- the answer
 
 module _ {t : List ℕ} {names : List (List ℕ)} {free : ℕ} (h : Holds t names free) (name : List ℕ) where
-  pub entry_no_name : (IsName name → ⊥) → entry_in names free name ≡ NoName
+  pub entry_no_name : (IsName name → ⊥) → entry_in names free name ≡ Err NoName
   entry_no_name f = rw (not_name name f) refl
 
 -- ---- the promise and its cases
 
-pub leaves : {t name s : List ℕ} {a : Entry} → Enters t name a s → s ≡ table_after t name a
+pub leaves : {t name s : List ℕ} {a : Result Entry Refusal} → Enters t name a s → s ≡ table_after t name a
 leaves (entered h e l) = l
 leaves {t} {name} (no_table f e l) = l ∙ sym (ap (table_after t name) e)

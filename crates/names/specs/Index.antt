@@ -1,8 +1,8 @@
 -- The index of a table: 2,048 numbers, of which the first 1,024 say by bucket in which slot the last name of that bucket stands,
 -- and the others by slot where the last one before it with the same bucket does. So a chain of slots goes down, and it ends.
-use Rattle.std.specs.Prelude.{◌≡◌, List, [], ◌∷◌, ℕ, ◌+◌, ◌-◌, ◌*◌, ◌%◌, ◌≤◌, ◌<◌, length, get_or, take, drop}
+use Rattle.std.specs.Prelude.{◌≡◌, List, [], ◌∷◌, ℕ, ◌+◌, ◌-◌, ◌*◌, ◌%◌, ◌≤◌, ◌<◌, length, get_or, take, drop, Result, Ok, Err}
 use Prim.{Unit}
-use Rattle.names.specs.Calls.{Check, Fails, Good}
+use Rattle.names.specs.Calls.{Counted, Refusal}
 
 -- A small hash of bytes. That it is a function of the bytes is all that is used of it.
 unfoldable pub hash_from : ℕ → List ℕ → ℕ
@@ -31,6 +31,6 @@ pub record Indexed (table : List ℕ) (held : ℕ) (index : List ℕ) : Type 0 w
   pub links : (k : ℕ) → k < held → Last table k (bucket_at table k) (get_or index (1024 + k) 0)
 
 -- What `check_into` leaves in the index: that of a table that passes.
-abbrev pub Indexes : (table index : List ℕ) → Check → Type 0
-Indexes table index Fails = Unit {0}
-Indexes table index (Good held free) = Indexed table held index
+abbrev pub Indexes : (table index : List ℕ) → Result Counted Refusal → Type 0
+Indexes table index (Ok counted) = Indexed table counted.held index
+Indexes table index (Err refusal) = Unit {0}

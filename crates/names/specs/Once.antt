@@ -1,11 +1,12 @@
 -- Each call's promise allows one outcome. It all rests on one law: a table holds one list of names.
-use Rattle.std.specs.Prelude.{◌≡◌, refl, List, [], ◌∷◌, ◌++◌, ℕ, ◌*◌, length, get_or, take, drop, replicate}
+use Rattle.std.specs.Prelude.{◌≡◌, refl, List, [], ◌∷◌, ◌++◌, ℕ, ◌*◌, length, get_or, take, drop, replicate, Option, Result, Ok, Err}
 use Rattle.std.proofs.Common.{sym, ap, ap₂, ◌∙◌, append_assoc, arith, take_at, drop_at}
 use Rattle.std.proofs.lemmas.List.{length-replicate}
+use Rattle.std.specs.Result.{result_err}
 use Rattle.names.specs.Name.{IsName}
 use Rattle.names.specs.Table.{Named, slot_of, slots_of, Holds, Passes}
 use Rattle.names.specs.Cases.{leaves}
-use Rattle.names.specs.Calls.{entry_in, Enters, entered, no_table, table_after, Entry, PartOf, bad_table, no_number, at, Part, NameIs, NameRefused, refusal_of_part, start_of_part, size_of_part, Check, Fails, Good, Checks}
+use Rattle.names.specs.Calls.{entry_in, Enters, entered, no_table, table_after, Entry, Refusal, PartOf, bad_table, no_number, at, Part, NameIs, NameRefused, start_of_part, size_of_part, Counted, Checks}
 use Rattle.names.specs.Slots.{named_rest, slot_length, slot_once, zero_at}
 
 -- A used slot's first byte is its name's length, which is not 0.
@@ -49,7 +50,7 @@ module _ {t : List ℕ} {a b : List (List ℕ)} {f g : ℕ} (h : Holds t a f) (k
 pub passes : {t : List ℕ} {a : List (List ℕ)} {f : ℕ} → Holds t a f → Passes t
 passes {t} {a} {f} h = record { names = a; free = f; holds = h }
 
-pub enters_once : {t name : List ℕ} (a b : Entry) (s u : List ℕ) → Enters t name a s → Enters t name b u → (a ≡ b) × (s ≡ u)
+pub enters_once : {t name : List ℕ} (a b : Result Entry Refusal) (s u : List ℕ) → Enters t name a s → Enters t name b u → (a ≡ b) × (s ≡ u)
 enters_once {t} {name} a b s u p q = let e = same_answer p q in (e, leaves p ∙ ap (table_after t name) e ∙ sym (leaves q))
   where
     same_answer : Enters t name a s → Enters t name b u → a ≡ b
@@ -58,7 +59,7 @@ enters_once {t} {name} a b s u p q = let e = same_answer p q in (e, leaves p ∙
     same_answer (no_table f e l) (entered h g m) = absurd (f (passes h))
     same_answer (no_table f e l) (no_table g h m) = e ∙ sym h
 
-pub part_once : {t : List ℕ} {number : ℕ} (p q : Part) → PartOf t number p → PartOf t number q → p ≡ q
+pub part_once : {t : List ℕ} {number : ℕ} (p q : Result Part Refusal) → PartOf t number p → PartOf t number q → p ≡ q
 part_once p q (bad_table f) (bad_table g) = refl
 part_once p q (bad_table f) (no_number h l) = absurd (f (passes h))
 part_once p q (bad_table f) (at h l s z) = absurd (f (passes h))
@@ -67,23 +68,23 @@ part_once p q (no_number h l) (no_number i m) = refl
 part_once p q (no_number h l) (at i m s z) = absurd (omega (arith, ap length (names_once h i)))
 part_once p q (at h l s z) (bad_table f) = absurd (f (passes h))
 part_once p q (at h l s z) (no_number i m) = absurd (omega (arith, ap length (names_once h i)))
-part_once {t} {number} p q (at {start = start} {size = size} h l s z) (at {start = start'} {size = size'} i m u y) =
-    let starts : start ≡ start' = s ∙ sym u in
-    let sizes : size ≡ size' = z ∙ ap (λ (names : List (List ℕ)). length (get_or names number [])) (names_once h i) ∙ sym y in
-    cc
+part_once {t} {number} p q (at {part = part} h l s z) (at {part = part'} i m u y) =
+    let starts : part.start ≡ part'.start = s ∙ sym u in
+    let sizes : part.size ≡ part'.size = z ∙ ap (λ (names : List (List ℕ)). length (get_or names number [])) (names_once h i) ∙ sym y in
+    ap₂ (λ (m n : ℕ). Ok (record { start = m; size = n })) starts sizes
 
 pub name_once : {t : List ℕ} {number : ℕ} (a b : List ℕ) → NameIs t number a → NameIs t number b → a ≡ b
 name_once {t} a b p q =
-    p.name_is ∙ ap (λ (x : Part). take (size_of_part x) (drop (start_of_part x) t)) (part_once p.part q.part p.stands q.stands) ∙ sym q.name_is
+    p.name_is ∙ ap (λ (x : Result Part Refusal). take (size_of_part x) (drop (start_of_part x) t)) (part_once p.part q.part p.stands q.stands) ∙ sym q.name_is
 
-pub refused_once : {t : List ℕ} {number : ℕ} (a b : ℕ) → NameRefused t number a → NameRefused t number b → a ≡ b
-refused_once a b p q = p.refusal_is ∙ ap refusal_of_part (part_once p.part q.part p.stands q.stands) ∙ sym q.refusal_is
+pub refused_once : {t : List ℕ} {number : ℕ} (a b : Option Refusal) → NameRefused t number a → NameRefused t number b → a ≡ b
+refused_once a b p q = p.refusal_is ∙ ap result_err (part_once p.part q.part p.stands q.stands) ∙ sym q.refusal_is
 
-pub checks_once : (t : List ℕ) (a b : Check) → Checks t a → Checks t b → a ≡ b
-checks_once t Fails Fails p q = refl
-checks_once t Fails (Good k f) p q = absurd (p (passes q.holds))
-checks_once t (Good k f) Fails p q = absurd (q (passes p.holds))
-checks_once t (Good j f) (Good k g) p q =
-    let counts : j ≡ k = sym p.count ∙ ap length (names_once p.holds q.holds) ∙ q.count in
-    let rooms : f ≡ g = free_once p.holds q.holds in
-    cc
+pub checks_once : (t : List ℕ) (a b : Result Counted Refusal) → Checks t a → Checks t b → a ≡ b
+checks_once t (Err r) (Err s) p q = ap Err (p.1 ∙ sym q.1)
+checks_once t (Err r) (Ok k) p q = absurd (p.0 (passes q.holds))
+checks_once t (Ok k) (Err r) p q = absurd (q.0 (passes p.holds))
+checks_once t (Ok j) (Ok k) p q =
+    let counts : j.held ≡ k.held = sym p.count ∙ ap length (names_once p.holds q.holds) ∙ q.count in
+    let rooms : j.free ≡ k.free = free_once p.holds q.holds in
+    ap₂ (λ (m n : ℕ). Ok (record { held = m; free = n })) counts rooms

@@ -1,64 +1,49 @@
 // The index of a table's names: heads by bucket and links by slot, each 1 and a slot, or 0 for none.
-ghost use Rattle.std.specs.Prelude.{◌≡◌, ℕ, ◌+◌, ◌<◌, length, get_or, set};
+// Both stand in one list, since `check_into` is lent one.
+ghost use Rattle.std.specs.Prelude.{◌≡◌, ◌<◌, length};
 ghost use Rattle.names.specs.Index.{Indexed, bucket_of};
 ghost use Rattle.names.specs.Leaves.{Finds};
 
-use crate::slot::{says, wide};
+use crate::slot::says;
 
 // The heads of an index, before its links.
-const HEADS: usize = 1024;
-
-fn wide_link(link: u16) -> usize
-    ensures { result ≡ link }
-{
-    link as usize
-}
+pub const HEADS: usize = 1024;
 
 pub fn bucket(name: &[u8]) -> usize
     ensures { (result ≡ bucket_of name.now) × (result < 1024) }
 {
     let mut h = 0;
-    let mut i = 0;
-    while i < name.len() {
-        h = (h * 37 + wide(name[i])) % 32768;
-        i += 1;
+    for byte in name {
+        h = (h * 37 + usize::from(*byte)) % 32768;
     }
     h % HEADS
 }
 
-// Makes the index that of no slots. The links of slots that aren't held matter to nobody.
-pub fn clear(index: &mut [u16])
-    requires { length index.old ≡ 2048 }
-    ensures { (h : ℕ) → h < 1024 → get_or index.new h 0 ≡ 0 }
-{
-    let mut h = 0;
-    while h < HEADS {
-        index[h] = 0;
-        h += 1;
-    }
+// The names in the first `held` slots of a table, with their index.
+#[derive(Clone, Copy)]
+pub struct Lookup<'a> {
+    pub table: &'a [u8],
+    pub index: &'a [u16],
+    pub held: usize,
+    pub ghost indexed: { Indexed table.now held index.now },
 }
 
-// One slot more.
-pub fn insert(index: &mut [u16], slot: usize, bucket: usize)
-    requires { (length index.old ≡ 2048) × (slot < 1024) × (bucket < 1024) }
-    ensures { index.new ≡ set (set index.old (1024 + slot) (get_or index.old bucket 0)) bucket (slot + 1) }
-{
-    index[HEADS + slot] = index[bucket];
-    index[bucket] = (slot + 1) as u16;
-}
-
-// A slot below `held` that says the name, or `held`: only the slots of the name's bucket are compared.
-pub fn find_in(table: &[u8], index: &[u16], held: usize, bucket: usize, name: &[u8]) -> usize
-    requires { (Indexed table.now held index.now) × (bucket ≡ bucket_of name.now) × (length name.now < 32) }
-    ensures { Finds table.now held name.now result }
-{
-    let mut next = wide_link(index[bucket]);
-    while next != 0 {
-        let slot = next - 1;
-        if says(table, slot, name) {
-            return slot;
+impl Lookup<'_> {
+    // A slot that says the name: only the slots of the name's bucket are compared.
+    #[inline]
+    pub(crate) fn find(&self, bucket: usize, name: &[u8]) -> Option<usize>
+        requires { (bucket ≡ bucket_of name.now) × (length name.now < 32) }
+        ensures { Finds self.now.table.now self.now.held name.now result }
+    {
+        // By links, not by an index: from slot to slot, 0 for none as the list has it.
+        let mut next = usize::from(self.index[bucket]);
+        while next != 0 {
+            let slot = next - 1;
+            if says(self.table, slot, name) {
+                return Some(slot);
+            }
+            next = usize::from(self.index[HEADS + slot]);
         }
-        next = wide_link(index[HEADS + slot]);
+        None
     }
-    held
 }

@@ -6,16 +6,19 @@
 pub mod checking;
 mod index;
 pub mod name;
+pub mod refusal;
 mod slot;
 
-ghost use Rattle.std.specs.Prelude.{◌≡◌, ◌+◌, ◌*◌, ◌≤◌, ◌<◌, length};
-ghost use Rattle.names.specs.Calls.{LooksUp, Adds, Appends, refusal_of_entry, number_of_entry, refusal_of_part, start_of_part, size_of_part, Enters, Counts, PartOf, NameIs, NameRefused};
+ghost use Rattle.std.specs.Prelude.{◌≡◌, ◌+◌, ◌*◌, ◌≤◌, ◌<◌, length, IfSome};
+ghost use Rattle.names.specs.Calls.{LooksUp, Adds, Appends, Enters, Counts, PartOf, NameIs, NameRefused};
 ghost use Rattle.names.specs.Index.{Indexed};
 
-use checking::{check, check_into};
-use index::{bucket, find_in};
+use checking::{Counted, check, check_into};
+pub use index::Lookup;
+use index::bucket;
 use name::is_name;
-use slot::{copy, find, wide, write};
+use refusal::Refusal;
+use slot::{copy, find, write};
 
 // The bytes of a slot, and the most slots of a table.
 pub const SLOT: usize = 32;
@@ -25,102 +28,38 @@ pub const SLOTS: usize = 1024;
 // The cells of an index: a head for each bucket, and a link for each slot.
 pub const INDEX: usize = 2048;
 
-// Whether a table passes, and then how many names it holds and how many slots are free.
-#[derive(Drop)]
-pub enum Check {
-    Fails,
-    Good { held: usize, free: usize },
-}
-
-// What entering a name gives: the slot in which it is held already, the slot that was made for it, or why it is refused.
-#[derive(Clone, Copy)]
+// What entering a name gives: the slot in which it is held already, or the slot that was made for it.
+#[derive(Clone, Copy, Debug, PartialEq, Eq)]
 pub enum Entry {
     Held(usize),
     New(usize),
-    NoTable,
-    NoName,
-    NoSlot,
 }
 
-// Where the name with a number stands in the table, or why there is none.
-#[derive(Clone, Copy)]
-pub enum Part {
-    At { start: usize, size: usize },
-    BadTable,
-    NoNumber,
+// Where in the table the name with a number stands.
+#[derive(Clone, Copy, Debug, PartialEq, Eq)]
+pub struct Part {
+    pub start: usize,
+    pub size: usize,
 }
 
-// The refusal and the number of an answer.
-pub fn entry_refusal(entry: Entry) -> u64
-    ensures { result ≡ refusal_of_entry entry }
-{
-    match entry {
-        Entry::Held(_) => 0,
-        Entry::New(_) => 0,
-        Entry::NoTable => 1,
-        Entry::NoName => 11,
-        Entry::NoSlot => 12,
-    }
-}
+// A table and the count of its names are lent side by side here and below, as docs/CONTRACTS.md names these functions; and where the
+// table is written afterwards, no `Lookup` can hold it.
 
-pub fn entry_number(entry: Entry) -> usize
-    ensures { result ≡ number_of_entry entry }
-{
-    match entry {
-        Entry::Held(slot) => slot,
-        Entry::New(slot) => slot,
-        Entry::NoTable => 0,
-        Entry::NoName => 0,
-        Entry::NoSlot => 0,
-    }
-}
-
-pub fn part_refusal(part: Part) -> u64
-    ensures { result ≡ refusal_of_part part }
-{
-    match part {
-        Part::At { start: _, size: _ } => 0,
-        Part::BadTable => 1,
-        Part::NoNumber => 13,
-    }
-}
-
-// Where the part of an answer begins, and its size.
-pub fn part_start(part: Part) -> usize
-    ensures { result ≡ start_of_part part }
-{
-    match part {
-        Part::At { start, size: _ } => start,
-        Part::BadTable => 0,
-        Part::NoNumber => 0,
-    }
-}
-
-pub fn part_size(part: Part) -> usize
-    ensures { result ≡ size_of_part part }
-{
-    match part {
-        Part::At { start: _, size } => size,
-        Part::BadTable => 0,
-        Part::NoNumber => 0,
-    }
-}
-
-// The slot of a name among the first `held` of a table that passes, or `held`: all of them are compared.
-pub fn look_up(table: &[u8], held: usize, name: &[u8]) -> usize
+// The slot of a name among the first `held` of a table that passes: all of them are compared.
+pub fn look_up(table: &[u8], held: usize, name: &[u8]) -> Option<usize>
     requires { (32 * held ≤ length table.now) × (length name.now < 32) }
-    ensures { (result ≤ held) × LooksUp table.now held name.now result }
+    ensures { IfSome result (λ slot. slot < held) × LooksUp table.now held name.now result }
 {
     find(table, held, name)
 }
 
 // The same, by the index that `checking::check_into` made of the table: only the slots of the name's bucket are compared.
-pub fn look_up_in(table: &[u8], index: &[u16], held: usize, name: &[u8]) -> usize
+pub fn look_up_in(table: &[u8], index: &[u16], held: usize, name: &[u8]) -> Option<usize>
     requires { (Indexed table.now held index.now) × (length name.now < 32) }
-    ensures { (result ≤ held) × LooksUp table.now held name.now result }
+    ensures { IfSome result (λ slot. slot < held) × LooksUp table.now held name.now result }
 {
-    let h = bucket(name);
-    find_in(table, index, held, h, name)
+    let lookup = Lookup { table, index, held };
+    lookup.find(bucket(name), name)
 }
 
 // Writes a name into the first free slot.
@@ -141,52 +80,51 @@ pub fn append(table: &mut [u8], held: usize, others: &[u8], count: usize)
 }
 
 // Enters a name: the number of its slot, made at the first free slot if it is new.
-pub fn enter(table: &mut [u8], name: &[u8]) -> Entry
+pub fn enter(table: &mut [u8], name: &[u8]) -> Result<Entry, Refusal>
     ensures { Enters table.old name.now result table.new }
 {
     let mut index = [0u16; INDEX];
-    match check_into(table, &mut index) {
-        Check::Fails => Entry::NoTable,
-        Check::Good { held, free } => enter_passing(table, &index, held, free, name),
-    }
+    let counted = check_into(table, &mut index)?;
+    enter_passing(table, &index, counted, name)
 }
 
 // The same, of a table that passes.
-fn enter_passing(table: &mut [u8], index: &[u16], held: usize, free: usize, name: &[u8]) -> Entry
-    requires { (Counts table.old held free) × (Indexed table.old held index.now) }
+fn enter_passing(
+    table: &mut [u8],
+    index: &[u16],
+    counted: Counted,
+    name: &[u8],
+) -> Result<Entry, Refusal>
+    requires { (Counts table.old counted.held counted.free) × (Indexed table.old counted.held index.now) }
     ensures { Enters table.old name.now result table.new }
 {
+    let Counted { held, free } = counted;
     if !is_name(name) {
-        return Entry::NoName;
+        return Err(Refusal::NoName);
     }
-    let slot = look_up_in(table, index, held, name);
-    if slot < held {
-        return Entry::Held(slot);
+    if let Some(slot) = look_up_in(table, index, held, name) {
+        return Ok(Entry::Held(slot));
     }
     if free == 0 {
-        return Entry::NoSlot;
+        return Err(Refusal::NoSlot);
     }
     add(table, held, name);
-    Entry::New(held)
+    Ok(Entry::New(held))
 }
 
 // Where in the table the name with a number stands.
-pub fn part_of(table: &[u8], number: usize) -> Part
+pub fn part_of(table: &[u8], number: usize) -> Result<Part, Refusal>
     ensures { PartOf table.now number result }
 {
-    match check(table) {
-        Check::Fails => Part::BadTable,
-        Check::Good { held, free: _ } => {
-            if held <= number {
-                return Part::NoNumber;
-            }
-            let at = SLOT * number;
-            Part::At {
-                start: at + 1,
-                size: wide(table[at]),
-            }
-        }
+    let counted = check(table)?;
+    if counted.held <= number {
+        return Err(Refusal::NoNumber);
     }
+    let at = SLOT * number;
+    Ok(Part {
+        start: at + 1,
+        size: usize::from(table[at]),
+    })
 }
 
 // The name with a number, as the part of the table where it stands; refused, an empty part.
@@ -194,18 +132,17 @@ pub fn name_of(table: &[u8], number: usize) -> &[u8]
     ensures { NameIs table.now number result.now }
 {
     match part_of(table, number) {
-        Part::At { start, size } => {
-            let end = start + size;
-            &table[start..end]
+        Ok(part) => {
+            let end = part.start + part.size;
+            &table[part.start..end]
         }
-        Part::BadTable => &table[0..0],
-        Part::NoNumber => &table[0..0],
+        Err(_) => &table[0..0],
     }
 }
 
-// The refusal of the same, or 0.
-pub fn name_refusal(table: &[u8], number: usize) -> u64
+// Why the same is refused, if it is.
+pub fn name_refusal(table: &[u8], number: usize) -> Option<Refusal>
     ensures { NameRefused table.now number result }
 {
-    part_refusal(part_of(table, number))
+    part_of(table, number).err()
 }

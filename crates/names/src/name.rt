@@ -12,28 +12,8 @@ pub fn is_name(name: &[u8]) -> bool
     ensures { Decides (IsName name.now) result }
 {
     let n = name.len();
-    if n == 0 {
+    if n == 0 || SLOT <= n || name[0] == SPACE || name[n - 1] == SPACE {
         return false;
     }
-    if SLOT <= n {
-        return false;
-    }
-    if name[0] == SPACE {
-        return false;
-    }
-    if name[n - 1] == SPACE {
-        return false;
-    }
-    let mut i = 0;
-    while i < n {
-        let byte = name[i];
-        if byte < 32 {
-            return false;
-        }
-        if 126 < byte {
-            return false;
-        }
-        i += 1;
-    }
-    true
+    name.iter().all(|byte| matches!(*byte, 32..=126))
 }

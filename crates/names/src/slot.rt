@@ -8,23 +8,10 @@ ghost use Rattle.names.specs.Leaves.{AllZero, Used, Says, Finds};
 use crate::SLOT;
 use crate::name::is_name;
 
-pub fn wide(byte: u8) -> usize
-    ensures { (result ≡ byte) × (result < 256) }
-{
-    byte as usize
-}
-
 pub fn all_zero(bytes: &[u8]) -> bool
     ensures { Decides (AllZero bytes.now) result }
 {
-    let mut i = 0;
-    while i < bytes.len() {
-        if bytes[i] != 0 {
-            return false;
-        }
-        i += 1;
-    }
-    true
+    bytes.iter().all(|byte| *byte == 0)
 }
 
 // Whether the 32 bytes of a slot are a length, a name of that length and zeros.
@@ -32,74 +19,53 @@ pub fn is_used(slot: &[u8]) -> bool
     requires { length slot.now ≡ 32 }
     ensures { Decides (Used slot.now) result }
 {
-    let n = wide(slot[0]);
+    let n = usize::from(slot[0]);
     if SLOT <= n {
         return false;
     }
     let end = n + 1;
-    if is_name(&slot[1..end]) {
-        return all_zero(&slot[end..]);
-    }
-    false
+    is_name(&slot[1..end]) && all_zero(&slot[end..])
 }
 
-// Whether a slot says the name.
+// Whether a slot says the name. That a name is shorter than a slot is asked of each caller, since a struct that says so would be
+// made anew in every call.
 pub fn says(table: &[u8], slot: usize, name: &[u8]) -> bool
     requires { (32 * slot + 32 ≤ length table.now) × (length name.now < 32) }
     ensures { Decides (Says table.now slot name.now) result }
 {
-    let n = name.len();
     let at = SLOT * slot;
-    if wide(table[at]) != n {
-        return false;
-    }
-    let mut i = 0;
-    while i < n {
-        if table[at + 1 + i] != name[i] {
-            return false;
-        }
-        i += 1;
-    }
-    true
+    let from = at + 1;
+    usize::from(table[at]) == name.len() && &table[from..from + name.len()] == name
 }
 
-// The first of the slots below `held` that says the name, or `held`.
-pub fn find(table: &[u8], held: usize, name: &[u8]) -> usize
+// The first of the slots below `held` that says the name. Labelled nested loops: docs/ARCHITECTURE.md names this place for them.
+pub fn find(table: &[u8], held: usize, name: &[u8]) -> Option<usize>
     requires { (32 * held ≤ length table.now) × (length name.now < 32) }
     ensures { Finds table.now held name.now result }
 {
     let n = name.len();
-    let mut slot = 0;
-    'slots: loop {
-        if held <= slot {
-            break 'slots held;
-        }
+    'slots: for slot in 0..held {
         let at = SLOT * slot;
-        if wide(table[at]) != n {
-            slot += 1;
+        if usize::from(table[at]) != n {
             continue 'slots;
         }
-        let mut i = 0;
-        while i < n {
-            if table[at + 1 + i] != name[i] {
-                slot += 1;
+        for (i, byte) in name.iter().enumerate() {
+            if table[at + 1 + i] != *byte {
                 continue 'slots;
             }
-            i += 1;
         }
-        break 'slots slot;
+        return Some(slot);
     }
+    None
 }
 
-// Writes bytes from `at` on.
+// Writes bytes from `at` on. By a loop, since `copy_from_slice` is a memmove, and the archive asks for memcpy and memset alone.
 pub fn copy(table: &mut [u8], at: usize, bytes: &[u8])
     requires { at + length bytes.now ≤ length table.old }
     ensures { table.new ≡ paste table.old at bytes.now (length bytes.now) }
 {
-    let mut i = 0;
-    while i < bytes.len() {
-        table[at + i] = bytes[i];
-        i += 1;
+    for (i, byte) in bytes.iter().enumerate() {
+        table[at + i] = *byte;
     }
 }
 

@@ -3,11 +3,10 @@ use mathlib.Core.Path.{◌≡◌, refl, sym, ap, ◌∙◌, subst}
 use mathlib.Core.List.Memᴰ
 use mathlib.Core.List.{List, [], ◌∷◌, ◌++◌}
 use mathlib.Core.Bool.{Bool, true, false}
-use Prim.Native.Nat.{ℕ, suc, ◌+◌, ◌-◌, ◌≤◌, ◌<◌}
+use Prim.Native.Nat.{ℕ, suc, ◌-◌, ◌≤◌}
 use native.Mathlib.Omega.{arith}
-use lib.ListN.{length, get_or, set, take, length-take, replicate, length-append, length-replicate}
-use native.Mathlib.Decide.{ℕ_discrete}
-use lib.Seq.{get_or-take, get_or-set_same, get_or-set_other, ext_get_or}
+use lib.ListN.{length, get_or, take, length-take, replicate, length-append, length-replicate}
+use lib.Seq.{get_or-take}
 use Rattle.deciding.specs.Deciding.{Decides, true_not_false}
 use Rattle.layout.specs.Layout.{map_words, links_at, tree_words, book_words}
 use Rattle.bits.specs.Packed.{bits}
@@ -20,25 +19,10 @@ use Rattle.shape.specs.Stops.{Stop, Standing, set_off, go_end, go_back}
 use Rattle.book.specs.Memory.{view, Passing}
 use Rattle.passing.specs.Wanted.{Told, Bare, ended_right, right_ended}
 use Rattle.passing.specs.State.{none, more, Stacked, AtHook, AllFound, Sizes, Over, Popped, Clear}
+use Rattle.passing.specs.declared.Walker.{Walker}
 use Rattle.book.specs.Looking.{inside, nodes_low}
 use Rattle.passing.proofs.Downing.{kept_back}
 use Rattle.recorded.specs.Way.{Kept, none, more, Low}
-
--- ---- the maps' words
-
-abbrev pub CopiedTo : List ℕ → List ℕ → ℕ → Type 0
-CopiedTo ws left i = (j : ℕ) → j < i → get_or left j 0 ≡ get_or ws j 0
-
-pub copied_on : (ws left : List ℕ) (i : ℕ) → length left ≡ map_words → i < map_words → CopiedTo ws left i → CopiedTo ws (set left i (get_or ws i 0)) (i + 1)
-copied_on ws left i l h c j k = go (ℕ_discrete j i)
-  where
-    go : Dec (j ≡ i) → get_or (set left i (get_or ws i 0)) j 0 ≡ get_or ws j 0
-    go (yes q) = ap (λ (z : ℕ). get_or (set left i (get_or ws i 0)) z 0) q ∙ get_or-set_same left i (get_or ws i 0) 0 (omega arith) ∙ ap (λ (z : ℕ). get_or ws z 0) (sym q)
-    go (no q) = get_or-set_other left i j (get_or ws i 0) 0 q ∙ c j (omega arith)
-
-pub copied_all : (ws left : List ℕ) (i : ℕ) → length ws ≡ book_words → length left ≡ map_words → map_words ≤ i → CopiedTo ws left i → left ≡ take map_words ws
-copied_all ws left i size l h c = ext_get_or 0 left (take map_words ws) (omega (arith, length-take map_words ws))
-    (λ j k. c j (omega arith) ∙ sym (get_or-take map_words ws j 0 (omega arith)))
 
 -- ---- none is left
 
@@ -53,8 +37,8 @@ clear_no left long n h = n (same_bits left (replicate map_words 0) (long ∙ sym
 pub found_passes : (ws : List ℕ) → length ws ≡ book_words → AllFound ws → Passing ws
 found_passes ws size f = record { size = size; right = ended_right (view ws) (nodes_low ws size) f }
 
-pub answers_no : (ws : List ℕ) → ¬ (AllFound ws) → Decides (Passing ws) false
-answers_no ws n = record { yes = λ q. absurd (true_not_false q refl); no = λ q p. n (right_ended (view ws) (nodes_low ws p.size) p.right) }
+pub answers_no : {ws : List ℕ} → ¬ (AllFound ws) → Decides (Passing ws) false
+answers_no {ws} n = record { yes = λ q. absurd (true_not_false q refl); no = λ q p. n (right_ended (view ws) (nodes_low ws p.size) p.right) }
 
 pub walked : (ws left : List ℕ) → length ws ≡ book_words → Walking (view ws).tree Bare (Told (view ws)) [] (marked left) → (r : Bool)
     → Decides (Clear left) r → Decides (Passing ws) r
@@ -77,12 +61,12 @@ module _ (ws left : List ℕ) (size : length ws ≡ book_words) (el : left ≡ t
   root_word : word (take tree_words ws) 0 ≡ get_or ws links_at 0
   root_word = get_or-take tree_words ws links_at 0 (omega arith)
 
-  pub no_child : (x : ℕ) → x ≡ first_of (get_or ws links_at 0) → x ≡ 0 → (r : Bool) → Decides (Clear left) r → Decides (Passing ws) r
-  no_child x e z r d = walked ws left size
+  pub no_child : {x : ℕ} → x ≡ first_of (get_or ws links_at 0) → x ≡ 0 → {r : Bool} → Decides (Clear left) r → Decides (Passing ws) r
+  no_child e z {r} d = walked ws left size
       (go_end (view ws).tree Bare (Told (view ws)) (marked left) (child 0) [] [] first_standing refl (ap first_of root_word ∙ sym e ∙ z) tt) r d
 
-  pub first_hook : (x : ℕ) → x ≡ first_of (get_or ws links_at 0) → ¬ (x ≡ 0) → AtHook ws left (replicate 33 0) (replicate 33 1) (replicate 33 0) x 0 0 0 0
-  first_hook x e z = record {
+  pub first_hook : {x : ℕ} → x ≡ first_of (get_or ws links_at 0) → ¬ (x ≡ 0) → AtHook ws left (replicate 33 0) (replicate 33 1) (replicate 33 0) (record { x = x; p = 0; low = 0; depth = 0; top = 0 })
+  first_hook {x} e z = record {
     hook = child 0;
     row = [];
     stops = [];
@@ -100,9 +84,9 @@ module _ (ws left : List ℕ) (size : length ws ≡ book_words) (el : left ≡ t
 
 -- ---- at the end of a list of siblings
 
-module _ (ws left way ks stack : List ℕ) (depth top : ℕ) (size : length ws ≡ book_words) (o : Over ws left way ks stack depth top) where
-  pub walk_over : top ≡ 0 → (r : Bool) → Decides (Clear left) r → Decides (Passing ws) r
-  walk_over z r d = walked ws left size
+module _ {ws left way ks stack : List ℕ} {depth top : ℕ} (size : length ws ≡ book_words) (o : Over ws left way ks stack depth top) where
+  pub walk_over : top ≡ 0 → {r : Bool} → Decides (Clear left) r → Decides (Passing ws) r
+  walk_over z {r} d = walked ws left size
       (go_end (view ws).tree Bare (Told (view ws)) (marked left) o.hook o.row o.stops o.standing
       (no_stops (subst (λ (k : ℕ). Stacked (view ws).tree stack k o.stops) z o.stacked)) o.leads o.bare) r d
     where
@@ -118,11 +102,11 @@ module _ (ws left way ks stack : List ℕ) (depth top : ℕ) (size : length ws �
   shorter : (s r : List ℕ) (c : ℕ) → s ++ c ∷ r ≡ o.row → length r ≤ 32
   shorter s r c e = omega (arith, ap length e, length-append s (c ∷ r), o.deep, o.short)
 
-  pub walk_back : (t w x p low d t' : ℕ) → top ≡ suc t → w ≡ get_or stack t 0 → Popped w t x p low d t' → AtHook ws left way ks stack x p low d t'
-  walk_back t w x p low d t' e ew q = go o.standing (subst (λ (k : ℕ). Stacked (view ws).tree stack k o.stops) e o.stacked)
+  pub walk_back : {t w : ℕ} {at : Walker} → top ≡ suc t → w ≡ get_or stack t 0 → Popped w t at → AtHook ws left way ks stack at
+  walk_back {t} {w} {at} e ew q = go o.standing (subst (λ (k : ℕ). Stacked (view ws).tree stack k o.stops) e o.stacked)
     where
       go : {stops : List Stop} → Standing (view ws).tree Bare (Told (view ws)) o.hook o.row stops (marked left) → Stacked (view ws).tree stack (suc t) stops
-          → AtHook ws left way ks stack x p low d t'
+          → AtHook ws left way ks stack at
       go st (more {n = n} {d = j} {ks = rest} v s) =
           let b = go_back (view ws).tree Bare (Told (view ws)) (marked left) o.hook o.row n j rest st o.leads o.bare in
           let same = b.0.is in
@@ -134,25 +118,22 @@ module _ (ws left way ks stack : List ℕ) (depth top : ℕ) (size : length ws �
             leads = sym v.next ∙ ap next_of (sym ew) ∙ sym q.x_is;
             under = sym v.parent ∙ ap parent_of (sym ew) ∙ sym q.p_is;
             above = ap suc (sym v.cell ∙ ap cell_of (sym ew)) ∙ let l = q.low_is in omega arith;
-            deep = sym first ∙ sym q.d_is;
-            short = let h = shorter b.0.before b.0.row ((view ws).tree.cell n) same in let g = q.d_is in omega arith;
+            deep = sym first ∙ sym q.depth_is;
+            short = let h = shorter b.0.before b.0.row ((view ws).tree.cell n) same in let g = q.depth_is in omega arith;
             cells = low_end b.0.before ((view ws).tree.cell n) b.0.row (subst Low (sym same) o.cells);
             stuck = λ z. absurd (b.0.next (sym v.next ∙ ap next_of (sym ew) ∙ sym q.x_is ∙ z));
-            stacked = subst (λ (k : ℕ). Stacked (view ws).tree stack k rest) (sym q.t_is) s;
+            stacked = subst (λ (k : ℕ). Stacked (view ws).tree stack k rest) (sym q.top_is) s;
             kept = kept_end b.0.before ((view ws).tree.cell n) b.0.row (subst (Kept way ks) (sym same) o.kept);
           }
 
 -- ---- the loop
 
-pub record Checking (ws left way ks stack : List ℕ) (x p low depth top : ℕ) : Type 0 where
+pub record Checking (ws left way ks stack : List ℕ) (at : Walker) : Type 0 where
   pub sizes : Sizes ws left way ks stack
-  pub at : AtHook ws left way ks stack x p low depth top
+  pub hook : AtHook ws left way ks stack at
 
-pub wrong_length : (ws : List ℕ) → ¬ (length ws ≡ book_words) → Decides (Passing ws) false
-wrong_length ws n = record { yes = λ q. absurd (true_not_false q refl); no = λ q p. n p.size }
-
-pub sizes_first : (ws left : List ℕ) → length ws ≡ book_words → left ≡ take map_words ws → Sizes ws left (replicate 33 0) (replicate 33 1) (replicate 33 0)
-sizes_first ws left size e = record {
+pub sizes_first : {ws left : List ℕ} → length ws ≡ book_words → left ≡ take map_words ws → Sizes ws left (replicate 33 0) (replicate 33 1) (replicate 33 0)
+sizes_first {ws} size e = record {
   words = size;
   maps = ap length e ∙ omega (arith, length-take map_words ws);
   ways = length-replicate {A = ℕ} 33 0;
@@ -160,10 +141,10 @@ sizes_first ws left size e = record {
   stops = length-replicate {A = ℕ} 33 0;
 }
 
-pub sizes_after : (ws left way ks stack left' way' ks' stack' : List ℕ) → Sizes ws left way ks stack → length left' ≡ length left
+pub sizes_after : {ws left way ks stack left' way' ks' stack' : List ℕ} → Sizes ws left way ks stack → length left' ≡ length left
     → length way' ≡ length way → length ks' ≡ length ks → length stack' ≡ length stack
     → Sizes ws left' way' ks' stack'
-sizes_after ws left way ks stack left' way' ks' stack' s a b c d =
+sizes_after s a b c d =
     record { words = s.words; maps = a ∙ s.maps; ways = b ∙ s.ways; counts = c ∙ s.counts; stops = d ∙ s.stops }
 
 pub one_more : {top : ℕ} → ¬ (top ≡ 0) → top ≡ suc (top - 1)

@@ -1,5 +1,4 @@
 -- Why the code does what it promises.
-pub mod Coming
 pub mod Downing
 pub mod Ruling
 pub mod Along

@@ -1,4 +1,5 @@
 -- A rule that is right for the way is the rule that hangs below the row of the way.
+use Rattle.std.specs.Prelude.{Ok}
 use mathlib.Core.Path.{◌≡◌, refl, sym, ap, ◌∙◌, subst}
 use mathlib.Core.List.{List, [], ◌∷◌, map, reverse}
 use Prim.Native.Nat.{ℕ, zero, suc, ◌+◌, ◌%◌, ◌≤◌, ◌<◌}
@@ -6,7 +7,6 @@ use native.Mathlib.Omega.{arith}
 use lib.ListN.{length, get_or, length-take, length-map, length-reverse}
 use lib.Seq.{ext_get_or, get_or-take}
 use Rattle.term.specs.Reading.{read_term}
-use Rattle.term.specs.declared.reading.Reading.TheVariants.{Whole}
 use Rattle.term.specs.Whole.{whole_term}
 use Rattle.book.specs.Memory.{view, term, form, blank_number}
 use Rattle.recorded.specs.WayCells.{kept_cell}
@@ -40,8 +40,8 @@ module _ (ws way ks row : List ℕ) (k depth : ℕ) (kept : Kept way ks row) (lo
     is = is;
   }
     where
-      whole : read_term ((view ws).cells k) ≡ Whole ((view ws).size k)
-      whole = r.term.whole ∙ ap Whole (sym r.size)
+      whole : read_term ((view ws).cells k) ≡ Ok ((view ws).size k)
+      whole = r.term.whole ∙ ap Ok (sym r.size)
 
       inside : (view ws).size k ≤ length ((view ws).cells k)
       inside = (whole_term ((view ws).cells k) ((view ws).size k) whole).inside
@@ -58,7 +58,7 @@ module _ (ws way ks row : List ℕ) (k depth : ℕ) (kept : Kept way ks row) (lo
     found = h.right.found;
     size = size;
     term = record {
-      whole = h.right.whole ∙ ap Whole size;
+      whole = h.right.whole ∙ ap Ok size;
       clean = λ i l. h.right.clean i (subst (λ (z : ℕ). z ≤ i) (sym size) l);
       same = λ j l. sym (form_cell j (subst (λ (z : ℕ). j < z) (sym size) l) inside) ∙ ap (λ (z : List ℕ). get_or z j 0) h.is ∙ sym (row_cell j l);
     };

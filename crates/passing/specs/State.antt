@@ -1,5 +1,5 @@
 -- What the walk keeps in its arrays: for each depth the last cells of the row and what is still wanted, and the words of its stops.
-use Rattle.std.specs.Prelude.{◌≡◌, List, [], ◌∷◌, Bool, true, false, ℕ, zero, suc, ◌+◌, ◌-◌, ◌%◌, ◌≤◌, ◌<◌, length, get_or, set}
+use Rattle.std.specs.Prelude.{◌≡◌, List, [], ◌∷◌, Option, MatchOption, Bool, true, false, ℕ, zero, suc, ◌+◌, ◌-◌, ◌%◌, ◌≤◌, ◌<◌, length, get_or, set}
 use Rattle.layout.specs.Layout.{nodes_limit, map_words, links_at, last_link, book_words}
 use Rattle.shape.specs.Shape.{Shape, Hook, to, owner, floor}
 use Rattle.shape.specs.Tally.{tally, marked}
@@ -10,6 +10,7 @@ use Rattle.shape.specs.Stops.{Stop, stop, Standing}
 use Rattle.book.specs.Memory.{view}
 use Rattle.recorded.specs.Way.{Kept, Low}
 use Rattle.passing.specs.Wanted.{Told, Bare}
+use Rattle.passing.specs.declared.Walker.{Walker}
 
 -- an array has the words of the stops, each with its depth in place of its first child
 pub data Stacked (m : Shape) (stack : List ℕ) : ℕ → List Stop → Type 0 where
@@ -17,19 +18,19 @@ pub data Stacked (m : Shape) (stack : List ℕ) : ℕ → List Stop → Type 0 w
   more : {k n d : ℕ} {ks : List Stop} → Node (get_or stack k 0) (m.cell n) (m.parent n) d (m.next n) → Stacked m stack k ks → Stacked m stack (suc k) (stop n d ∷ ks)
 
 -- The walk stands before the link x, a child of p with a cell of `low` at the least
-pub record AtHook (ws left way ks stack : List ℕ) (x p low depth top : ℕ) : Type 0 where
+pub record AtHook (ws left way ks stack : List ℕ) (at : Walker) : Type 0 where
   pub hook : Hook
   pub row : List ℕ
   pub stops : List Stop
   pub standing : Standing (view ws).tree Bare (Told (view ws)) hook row stops (marked left)
-  pub leads : to (view ws).tree hook ≡ x
-  pub under : owner (view ws).tree hook ≡ p
-  pub above : floor (view ws).tree hook ≡ low
-  pub deep : length row ≡ depth
-  pub short : depth ≤ 32
+  pub leads : to (view ws).tree hook ≡ at.x
+  pub under : owner (view ws).tree hook ≡ at.p
+  pub above : floor (view ws).tree hook ≡ at.low
+  pub deep : length row ≡ at.depth
+  pub short : at.depth ≤ 32
   pub cells : Low row
-  pub stuck : x ≡ 0 → ¬ (Bare hook)
-  pub stacked : Stacked (view ws).tree stack top stops
+  pub stuck : at.x ≡ 0 → ¬ (Bare hook)
+  pub stacked : Stacked (view ws).tree stack at.top stops
   pub kept : Kept way ks row
 
 -- All is found that the check asks for
@@ -38,14 +39,44 @@ AllFound ws = Ended (view ws).tree Bare (Told (view ws))
 
 -- ---- what the functions promise
 
--- The word w of the node n fits below p, and n is left; then it is left no more
-pub record Come (left left' : List ℕ) (w n p low : ℕ) (r : Bool) : Type 0 where
-  pub under : r ≡ true → parent_of w ≡ p
-  pub above : r ≡ true → low ≤ cell_of w
-  pub was : r ≡ true → Marked left n
-  pub no : r ≡ false → parent_of w ≡ p → low ≤ cell_of w → ¬ (Marked left n)
-  pub gone : r ≡ true → marked left' n ≡ false
-  pub others : r ≡ true → (y : ℕ) → ¬ (y ≡ n) → marked left' y ≡ marked left y
+-- What is asked of the link x, with the word w: it fits below p, and its node is left
+pub record Asked (left : List ℕ) (at : Walker) (w : ℕ) : Type 0 where
+  pub under : parent_of w ≡ at.p
+  pub above : at.low ≤ cell_of w
+  pub was : Marked left (at.x - 1)
+
+-- What is asked of it as a node of forms
+pub record AskedNode (left : List ℕ) (at : Walker) (w : ℕ) : Type 0 where
+  pub some : 0 < at.x
+  pub node : at.x ≤ nodes_limit
+  pub short : at.depth < 32
+  pub cell : cell_of w ≤ 32768
+  pub fits : Asked left at w
+
+-- What is asked of it as a rule
+pub record AskedRule (left : List ℕ) (at : Walker) (w : ℕ) : Type 0 where
+  pub rule : nodes_limit < at.x
+  pub most : at.x ≤ last_link
+  pub leaf : first_of w ≡ 0
+  pub fits : Asked left at w
+
+-- It is asked, and then the node is left no more
+pub record Come (left left' : List ℕ) (at : Walker) (w : ℕ) (r : Bool) : Type 0 where
+  pub yes : r ≡ true → Asked left at w
+  pub gone : r ≡ true → marked left' (at.x - 1) ≡ false
+  pub others : r ≡ true → (y : ℕ) → ¬ (y ≡ at.x - 1) → marked left' y ≡ marked left y
+  pub no : r ≡ false → ¬ (Asked left at w)
+
+-- The word w of the link x is as asked, and the node is left no more
+pub record Taken (Asks : ℕ → Type 0) (ws left left' : List ℕ) (at : Walker) (w : ℕ) : Type 0 where
+  pub asked : Asks w
+  pub word : w ≡ get_or ws (links_at + at.x) 0
+  pub gone : marked left' (at.x - 1) ≡ false
+  pub others : (y : ℕ) → ¬ (y ≡ at.x - 1) → marked left' y ≡ marked left y
+
+-- So it is where there is an answer; else the word is not as asked
+abbrev pub Entered : (Asks : ℕ → Type 0) (ws left left' : List ℕ) (at : Walker) → Option ℕ → Type 0
+Entered Asks ws left left' at r = MatchOption r (¬ (Asks (get_or ws (links_at + at.x) 0))) (Taken Asks ws left left' at)
 
 -- The word w is put on the stack, and counts where it has a next sibling
 pub record Pushed (stack stack' : List ℕ) (top top' w depth : ℕ) : Type 0 where
@@ -63,46 +94,15 @@ pub record Sizes (ws left way ks stack : List ℕ) : Type 0 where
   pub counts : length ks ≡ 33
   pub stops : length stack ≡ 33
 
--- What is asked of a node of forms that the link x leads to, with the word w
-pub record AskedNode (left : List ℕ) (x p low depth w : ℕ) : Type 0 where
-  pub some : 0 < x
-  pub node : x ≤ nodes_limit
-  pub short : depth < 32
-  pub cell : cell_of w ≤ 32768
-  pub under : parent_of w ≡ p
-  pub above : low ≤ cell_of w
-  pub was : Marked left (x - 1)
-
--- It is asked, and then the node is left no more
-pub record Entered (ws left left' : List ℕ) (x p low depth w : ℕ) (r : Bool) : Type 0 where
-  pub yes : r ≡ true → AskedNode left x p low depth w
-  pub word : r ≡ true → w ≡ get_or ws (links_at + x) 0
-  pub gone : r ≡ true → marked left' (x - 1) ≡ false
-  pub others : r ≡ true → (y : ℕ) → ¬ (y ≡ x - 1) → marked left' y ≡ marked left y
-  pub no : r ≡ false → ¬ (AskedNode left x p low depth (get_or ws (links_at + x) 0))
+-- The end of a form
+pub record FormEnd (ws left left' way ks stack : List ℕ) (at : Walker) : Type 0 where
+  pub hook : AtHook ws left' way ks stack at
+  pub whole : get_or ks at.depth 0 % 65536 ≡ 0
+  pub fewer : tally (marked left') last_link ≤ tally (marked left) last_link
 
 -- Down to the end of a form
-pub record Downed (ws left left' way ks stack : List ℕ) (x p low depth top : ℕ) (r : Bool) : Type 0 where
-  pub at : r ≡ true → AtHook ws left' way ks stack x p low depth top
-  pub whole : r ≡ true → get_or ks depth 0 % 65536 ≡ 0
-  pub fewer : r ≡ true → tally (marked left') last_link ≤ tally (marked left) last_link
-  pub no : r ≡ false → ¬ (AllFound ws)
-
--- What is asked of a rule that the link x leads to, with the word w
-pub record AskedRule (left : List ℕ) (x p low w : ℕ) : Type 0 where
-  pub rule : nodes_limit < x
-  pub most : x ≤ last_link
-  pub leaf : first_of w ≡ 0
-  pub under : parent_of w ≡ p
-  pub above : low ≤ cell_of w
-  pub was : Marked left (x - 1)
-
-pub record RuleEntered (ws left left' : List ℕ) (x p low w : ℕ) (r : Bool) : Type 0 where
-  pub yes : r ≡ true → AskedRule left x p low w
-  pub word : r ≡ true → w ≡ get_or ws (links_at + x) 0
-  pub gone : r ≡ true → marked left' (x - 1) ≡ false
-  pub others : r ≡ true → (y : ℕ) → ¬ (y ≡ x - 1) → marked left' y ≡ marked left y
-  pub no : r ≡ false → ¬ (AskedRule left x p low (get_or ws (links_at + x) 0))
+abbrev pub Downed : (ws left left' way ks stack : List ℕ) → Option Walker → Type 0
+Downed ws left left' way ks stack r = MatchOption r (¬ (AllFound ws)) (FormEnd ws left left' way ks stack)
 
 -- The walk stands at the end of a list of siblings
 pub record Over (ws left way ks stack : List ℕ) (depth top : ℕ) : Type 0 where
@@ -129,9 +129,9 @@ abbrev pub Clear : List ℕ → Type 0
 Clear left = (n : ℕ) → marked left n ≡ false
 
 -- The hook behind the stop with the word w
-pub record Popped (w t x p low d top : ℕ) : Type 0 where
-  pub x_is : x ≡ next_of w
-  pub p_is : p ≡ parent_of w
-  pub low_is : low ≡ cell_of w + 1
-  pub d_is : d ≡ first_of w
-  pub t_is : top ≡ t
+pub record Popped (w t : ℕ) (at : Walker) : Type 0 where
+  pub x_is : at.x ≡ next_of w
+  pub p_is : at.p ≡ parent_of w
+  pub low_is : at.low ≡ cell_of w + 1
+  pub depth_is : at.depth ≡ first_of w
+  pub top_is : at.top ≡ t

@@ -3,194 +3,128 @@
 // have bits, and its time goes with the nodes and the rules held.
 #![tactic(auto)]
 
-ghost use Rattle.std.specs.Prelude.{◌≡◌, false, ◌%◌, ◌≤◌, ◌<◌, length, get_or, take};
+ghost use Rattle.std.specs.Prelude.{◌≡◌, ◌%◌, ◌≤◌, ◌<◌, length, get_or, take};
 ghost use Rattle.deciding.specs.Deciding.{Decides};
 ghost use Rattle.layout.specs.Layout.{map_words, last_link, book_words};
 ghost use Rattle.book.specs.Memory.{Passing};
 ghost use Rattle.recorded.specs.Way.{numbered};
-ghost use Rattle.passing.specs.State.{AtHook, Sizes, Come, Pushed, Entered, Downed, RuleEntered, Ruled, Clear, Popped};
+ghost use Rattle.passing.specs.State.{AtHook, Sizes, Come, AskedNode, AskedRule, Entered, Pushed, Downed, Ruled, Clear, Popped};
 
 use book::Book;
+use links::MARK;
 
-// The mark of a blank, as wide as the cell of a word.
-const MARK: u64 = Book::MARK as u64;
-
-// Where the walk is: before the link x, a child of p with a cell of `low` at the least. Or it has met something wrong.
-#[derive(Drop)]
+// Where the walk is: before the link x, a child of p with a cell of `low` at the least, `depth` cells down and with `top` stops to
+// come back to. 0 for x is no link, as in the links of the memory: `AtHook` reads it so.
+#[derive(Clone, Copy)]
 pub struct Walker {
     pub x: usize,
     pub p: usize,
     pub low: u64,
     pub depth: usize,
     pub top: usize,
-    pub right: bool,
 }
 
-// Does the word w of the node n fit below p, and is n left? Then it is taken.
-fn come(left: &mut [u64], w: u64, n: usize, p: usize, low: u64) -> bool
-    requires { (length left.old ≡ map_words) × (n < last_link) }
-    ensures { Come left.old left.new w n p low result }
+// Does the word w of the link that the walk is before fit below p, and is its node left? Then it is taken.
+// Those left are a slice here and in `enter`, `enter_rule` and `is_clear`, as `down` and `rules` are lent them.
+fn come(left: &mut [u64], w: u64, at: Walker) -> bool
+    requires maps { length left.old ≡ map_words }
+    requires some { 0 < at.x }
+    requires most { at.x ≤ last_link }
+    ensures { Come left.old left.new at w result }
 {
-    if links::parent_of(w) as usize != p {
-        return false;
+    let fits = at.low <= links::cell_of(w)
+        && links::parent_of(w) as usize == at.p
+        && bits::is_marked(left, at.x - 1);
+    if fits {
+        bits::clear(left, at.x - 1);
     }
-    if links::cell_of(w) < low {
-        return false;
-    }
-    if !bits::is_marked(left, n) {
-        return false;
-    }
-    bits::clear(left, n);
-    true
+    fits
 }
 
 // The node is put on the stack, with its depth in place of its first child, and stays there if it has a next sibling.
 // It is stored in any case, as no guess of the processor at its sibling would be a good one.
 fn push(stack: &mut [u64], top: usize, w: u64, depth: usize) -> usize
-    requires { (length stack.old ≡ 33) × (top ≤ 32) × (depth ≤ 32) }
+    requires stack_len { length stack.old ≡ 33 }
+    requires top_low { top ≤ 32 }
+    requires depth_low { depth ≤ 32 }
     ensures { Pushed stack.old stack.new top result w depth }
 {
     stack[top] = links::with_first(w, depth as u64);
-    if w % 65536 == 0 {
-        return top;
-    }
-    top + 1
+    top + usize::from(links::next_of(w) != 0)
 }
 
 // The cell of the most general term: a blank is the next variable.
 fn number(c: u64, known: u64) -> u64
-    requires { (c ≤ 32768) × (known ≤ 32) }
+    requires cell_low { c ≤ 32768 }
+    requires known_low { known ≤ 32 }
     ensures { (result ≡ numbered c known) × (result < 65536) }
 {
     if c < MARK { c } else { c + known }
 }
 
-// A word, or something wrong.
-#[derive(Drop)]
-struct Got {
-    word: u64,
-    right: bool,
-}
-
-// The word of the node of forms that the link x leads to, a child of p with a cell of `low` at the least, which is left.
-fn enter(m: &[u64], left: &mut [u64], x: usize, p: usize, low: u64, depth: usize) -> Got
-    requires { (length m.now ≡ book_words) × (length left.old ≡ map_words) }
-    ensures { Entered m.now left.old left.new x p low depth result.word result.right }
+// The word of the link that the walk is before, where that leads to a node of forms that fits. Then the node is taken.
+fn enter(m: &[u64], left: &mut [u64], at: Walker) -> Option<u64>
+    requires words { length m.now ≡ book_words }
+    requires maps { length left.old ≡ map_words }
+    ensures { Entered (AskedNode left.old at) m.now left.old left.new at result }
 {
-    if x == 0 {
-        return wrong();
+    if at.x == 0 || Book::NODES < at.x || 32 <= at.depth {
+        return None;
     }
-    if Book::NODES < x {
-        return wrong();
-    }
-    if 32 <= depth {
-        return wrong();
-    }
-    let w = m[layout::LINKS_AT + x];
-    if MARK < links::cell_of(w) {
-        return wrong();
-    }
-    if !come(left, w, x - 1, p, low) {
-        return wrong();
-    }
-    Got {
-        word: w,
-        right: true,
-    }
+    let w = m[layout::LINKS_AT + at.x];
+    let fits = links::cell_of(w) <= MARK && come(left, w, at);
+    fits.then_some(w)
 }
 
-fn wrong() -> Got
-    ensures { result.right ≡ false }
-{
-    Got {
-        word: 0,
-        right: false,
-    }
-}
-
-fn lost() -> Walker
-    ensures { result.right ≡ false }
-{
-    Walker {
-        x: 0,
-        p: 0,
-        low: 0,
-        depth: 0,
-        top: 0,
-        right: false,
-    }
-}
-
-// From the link x, a child of p, along first children down to where nothing is wanted.
+// From the link that the walk is before along first children down to where nothing is wanted.
+// The arrays are parameters one by one, since docs/CONTRACTS.md names `down` and `rules` as they are called.
 pub fn down(
     m: &[u64],
     left: &mut [u64],
     way: &mut [u64],
     wants: &mut [u64],
     stack: &mut [u64],
-    at: Walker,
-) -> Walker
+    mut at: Walker,
+) -> Option<Walker>
     requires sizes { Sizes m.now left.old way.old wants.old stack.old }
-    requires at_hook { AtHook m.now left.old way.old wants.old stack.old at.x at.p at.low at.depth at.top }
-    ensures { Downed m.now left.old left.new way.new wants.new stack.new result.x result.p result.low result.depth result.top result.right }
+    requires at_hook { AtHook m.now left.old way.old wants.old stack.old at }
+    ensures { Downed m.now left.old left.new way.new wants.new stack.new result }
 {
-    let mut x = at.x;
-    let mut p = at.p;
-    let mut low = at.low;
-    let mut depth = at.depth;
-    let mut top = at.top;
-    let mut k = wants[depth];
-    let mut word = way[depth];
+    let mut k = wants[at.depth];
+    let mut word = way[at.depth];
+    // By links, not by an index: down along first children, as long as a cell is wanted.
     while k % 65536 != 0 {
-        let got = enter(m, left, x, p, low, depth);
-        let right = got.right;
-        if !right {
-            return lost();
-        }
-        let w = got.word;
+        let w = enter(m, left, at)?;
         let c = links::cell_of(w);
-        top = push(stack, top, w, depth);
+        let top = push(stack, at.top, w, at.depth);
         word = word % 281474976710656 * 65536 + number(c, k / 65536);
         k = k + c / 4096 % 8 + c / 32768 * 65536 - 1;
-        depth += 1;
+        let depth = at.depth + 1;
         way[depth] = word;
         wants[depth] = k;
-        p = x;
-        x = links::first_of(w) as usize;
-        low = 0;
+        at = Walker {
+            x: links::first_of(w) as usize,
+            p: at.x,
+            low: 0,
+            depth,
+            top,
+        };
     }
-    Walker {
-        x,
-        p,
-        low,
-        depth,
-        top,
-        right: true,
-    }
+    Some(at)
 }
 
-// The word of the rule that the link x leads to, a child of p with a number of `low` at the least, which is left.
-fn enter_rule(m: &[u64], left: &mut [u64], x: usize, p: usize, low: u64) -> Got
-    requires { (length m.now ≡ book_words) × (length left.old ≡ map_words) }
-    ensures { RuleEntered m.now left.old left.new x p low result.word result.right }
+// The word of the link that the walk is before, where that leads to a rule that fits. Then the rule is taken.
+fn enter_rule(m: &[u64], left: &mut [u64], at: Walker) -> Option<u64>
+    requires words { length m.now ≡ book_words }
+    requires maps { length left.old ≡ map_words }
+    ensures { Entered (AskedRule left.old at) m.now left.old left.new at result }
 {
-    if x <= Book::NODES {
-        return wrong();
+    if at.x <= Book::NODES || layout::LAST_LINK < at.x {
+        return None;
     }
-    if layout::LAST_LINK < x {
-        return wrong();
-    }
-    let w = m[layout::LINKS_AT + x];
-    if links::first_of(w) != 0 {
-        return wrong();
-    }
-    if !come(left, w, x - 1, p, low) {
-        return wrong();
-    }
-    Got {
-        word: w,
-        right: true,
-    }
+    let w = m[layout::LINKS_AT + at.x];
+    let fits = links::first_of(w) == 0 && come(left, w, at);
+    fits.then_some(w)
 }
 
 // Along the rules below a whole form, one at the least.
@@ -200,32 +134,25 @@ pub fn rules(
     way: &[u64],
     wants: &[u64],
     stack: &[u64],
-    at: Walker,
+    mut at: Walker,
 ) -> bool
     requires sizes { Sizes m.now left.old way.now wants.now stack.now }
-    requires at_hook { AtHook m.now left.old way.now wants.now stack.now at.x at.p at.low at.depth at.top }
+    requires at_hook { AtHook m.now left.old way.now wants.now stack.now at }
     requires depth_value { get_or wants.now at.depth 0 % 65536 ≡ 0 }
     ensures { Ruled m.now left.old left.new way.now wants.now stack.now at.depth at.top result }
 {
-    let p = at.p;
-    let depth = at.depth;
-    let top = at.top;
-    let mut x = at.x;
-    let mut low = at.low;
+    // By links, not by an index: along next siblings.
     loop {
-        let got = enter_rule(m, left, x, p, low);
-        let right = got.right;
-        if !right {
+        let Some(w) = enter_rule(m, left, at) else {
             return false;
-        }
-        let w = got.word;
+        };
         let number = links::cell_of(w);
-        if !recorded::is_rule(m, way, x - layout::FIRST_RULE, number, depth) {
+        if !recorded::is_rule(m, way, at.x - layout::FIRST_RULE, number, at.depth) {
             return false;
         }
-        x = links::next_of(w) as usize;
-        low = number + 1;
-        if x == 0 {
+        at.x = links::next_of(w) as usize;
+        at.low = number + 1;
+        if at.x == 0 {
             return true;
         }
     }
@@ -237,11 +164,7 @@ fn maps(m: &[u64]) -> [u64; layout::MAP_WORDS]
     ensures { result ≡ take map_words m.now }
 {
     let mut left = [0u64; layout::MAP_WORDS];
-    let mut i: usize = 0;
-    while i < layout::MAP_WORDS {
-        left[i] = m[i];
-        i += 1;
-    }
+    left.copy_from_slice(&m[..layout::MAP_WORDS]);
     left
 }
 
@@ -255,7 +178,7 @@ fn is_clear(left: &[u64]) -> bool
 
 // Behind the stop with the word w, where t stops are left.
 fn back(w: u64, t: usize) -> Walker
-    ensures { Popped w t result.x result.p result.low result.depth result.top }
+    ensures { Popped w t result }
 {
     Walker {
         x: links::next_of(w) as usize,
@@ -263,7 +186,6 @@ fn back(w: u64, t: usize) -> Walker
         low: links::cell_of(w) + 1,
         depth: links::first_of(w) as usize,
         top: t,
-        right: true,
     }
 }
 
@@ -279,6 +201,7 @@ pub fn passes(m: &[u64]) -> bool
     if first == 0 {
         return is_clear(&left);
     }
+    // Three lists by depth and not one of structs: `down` and `rules`, which docs/CONTRACTS.md names, are lent them apart.
     let mut way = [0u64; 33];
     let mut wants = [1u64; 33];
     let mut stack = [0u64; 33];
@@ -288,21 +211,18 @@ pub fn passes(m: &[u64]) -> bool
         low: 0,
         depth: 0,
         top: 0,
-        right: true,
     };
+    // By links, not by an index: down to a form, along its rules, back to the last node with a next sibling.
     loop {
-        let end = down(m, &mut left, &mut way, &mut wants, &mut stack, at);
-        let right = end.right;
-        if !right {
+        let Some(end) = down(m, &mut left, &mut way, &mut wants, &mut stack, at) else {
             return false;
-        }
-        let top = end.top;
+        };
         if !rules(m, &mut left, &way, &wants, &stack, end) {
             return false;
         }
-        if top == 0 {
+        if end.top == 0 {
             return is_clear(&left);
         }
-        at = back(stack[top - 1], top - 1);
+        at = back(stack[end.top - 1], end.top - 1);
     }
 }

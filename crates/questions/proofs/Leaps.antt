@@ -67,11 +67,11 @@ pub up_to_it : (cell c : ℕ) → cell < 32768 → Reach cell c cell
 up_to_it cell c low = record { low = omega arith; between = λ k l h e. omega arith }
 
 -- a sign that leads further on
-pub leaps : (ws : List ℕ) (cell link x most r : ℕ) → Threaded ws x → ¬ (x ≡ 0) → ((i : ℕ) → get_or ws i 0 < 2 ^ 64) → (c : ℕ)
+pub leaps : {ws : List ℕ} {cell link x most r c : ℕ} → Threaded ws x → ¬ (x ≡ 0) → ((i : ℕ) → get_or ws i 0 < 2 ^ 64)
     → c ≡ cell_of (get_or ws (links_at + x) 0) → Reach cell c most → Further (view ws).tree (get_or ws (links_at + x) 0) most r
     → PassesBy ws cell link x → Leapt ws cell link x r
-leaps ws cell link zero most r t n all c ec reach f by = absurd (n refl)
-leaps ws cell link (suc k) most r t n all c ec reach f by =
+leaps {x = zero} t n all ec reach f by = absurd (n refl)
+leaps {ws = ws} {cell = cell} {link = link} {x = suc k} {c = c} t n all ec reach f by =
     subst (Leapt ws cell link (suc k)) (sym f.leads)
     (record {
       threaded = record {
@@ -95,10 +95,10 @@ leaps ws cell link (suc k) most r t n all c ec reach f by =
         (let h = f.further in omega (arith, same, ec)) (omega arith) by
 
 -- the next sibling, where it is passed by
-pub steps : (ws : List ℕ) (cell link x r : ℕ) → Threaded ws x → ¬ (x ≡ 0) → ((i : ℕ) → get_or ws i 0 < 2 ^ 64) → (c : ℕ)
+pub steps : {ws : List ℕ} {cell link x r c : ℕ} → Threaded ws x → ¬ (x ≡ 0) → ((i : ℕ) → get_or ws i 0 < 2 ^ 64)
     → c ≡ cell_of (get_or ws (links_at + x) 0) → c < 32768 → ¬ (c ≡ cell) → r ≡ next_of (get_or ws (links_at + x) 0) → PassesBy ws cell link x → Leapt ws cell link x r
-steps ws cell link zero r t n all c ec l d e by = absurd (n refl)
-steps ws cell link (suc k) r t n all c ec l d e by = subst (Leapt ws cell link (suc k)) (sym e) (record {
+steps {x = zero} t n all ec l d e by = absurd (n refl)
+steps {ws = ws} {cell = cell} {link = link} {x = suc k} t n all ec l d e by = subst (Leapt ws cell link (suc k)) (sym e) (record {
   threaded = record { passing = t.passing; used = λ y q. next_used ws t.passing k (t.used k refl) y q };
   by = pass_on by n (subst (λ (z : ℕ). z < 32768) ec l) (λ q. d (ec ∙ q));
   less = next_less ws t.passing all k (t.used k refl);

@@ -6,5 +6,4 @@ pub mod Leaving
 pub mod Marking
 pub mod Turns
 pub mod Searching
-pub mod Lending
 pub mod Writing

@@ -26,8 +26,8 @@ use Rattle.questions.proofs.Threads.{beside_threaded}
 -- ---- the marks
 
 -- no node
-pub marks_none : (ws marks : List ℕ) → NumberSet marks → Marked ws marks marks []
-marks_none ws marks s = record { map = s; marks_are = λ k. ((λ x. inl x), of k) }
+pub marks_none : {ws marks : List ℕ} → NumberSet marks → Marked ws marks marks []
+marks_none {ws} {marks} s = record { map = s; marks_are = λ k. ((λ x. inl x), of k) }
   where
     of : (k : ℕ) → Member marks k ⊎ ((n : ℕ) × Memᴰ n [] × ((view ws).tree.cell n ≡ k)) → Member marks k
     of k (inl x) = x
@@ -114,14 +114,14 @@ pub record Marking (ws marks₀ : List ℕ) (link : ℕ) (marks : List ℕ) (x :
   pub total : sofar ++ siblings ws x ≡ siblings ws link
   pub low : (n : ℕ) → Memᴰ n (siblings ws link) → (view ws).tree.cell n < rule_numbers
 
-pub begins : (ws marks : List ℕ) (link : ℕ) → RulesBeside ws link → NumberSet marks → Marking ws marks link marks link
-begins ws marks link a s = record { threaded = a.threaded; sofar = []; marked = marks_none ws marks s; total = refl; low = a.low }
+pub begins : {ws marks : List ℕ} {link : ℕ} → RulesBeside ws link → NumberSet marks → Marking ws marks link marks link
+begins a s = record { threaded = a.threaded; sofar = []; marked = marks_none s; total = refl; low = a.low }
 
-pub marks_all : (ws marks₀ : List ℕ) (link : ℕ) (marks : List ℕ) (x : ℕ) → Marking ws marks₀ link marks x → x ≡ 0 → Marked ws marks₀ marks (siblings ws link)
-marks_all ws marks₀ link marks x s z = subst (Marked ws marks₀ marks)
+pub marks_all : {ws marks₀ marks : List ℕ} {link x : ℕ} → Marking ws marks₀ link marks x → x ≡ 0 → Marked ws marks₀ marks (siblings ws link)
+marks_all {ws} {marks₀} {marks} s z = subst (Marked ws marks₀ marks)
     (sym (append-nil s.sofar) ∙ ap (λ (l : List ℕ). s.sofar ++ l) (sym (siblings_none ws) ∙ ap (siblings ws) (sym z)) ∙ s.total) s.marked
 
-module _ (ws : List ℕ) (words : (i : ℕ) → get_or ws i 0 < 2 ^ 64) (marks₀ : List ℕ) (link : ℕ) (marks : List ℕ) (x : ℕ) (s : Marking ws marks₀ link marks x) (some : ¬ (x ≡ 0)) (c : ℕ) (ec : c ≡ cell_of (get_or ws (links_at + x) 0)) where
+module _ {ws : List ℕ} (words : (i : ℕ) → get_or ws i 0 < 2 ^ 64) {marks₀ marks : List ℕ} {link x : ℕ} (s : Marking ws marks₀ link marks x) (some : ¬ (x ≡ 0)) {c : ℕ} (ec : c ≡ cell_of (get_or ws (links_at + x) 0)) where
   abbrev this : ℕ
   this = n ws words x s.threaded some
 
@@ -136,8 +136,8 @@ module _ (ws : List ℕ) (words : (i : ℕ) → get_or ws i 0 < 2 ^ 64) (marks�
   number_low = subst (λ (k : ℕ). k < rule_numbers) is_cell
       (s.low this (subst (Memᴰ this) more (Memᴰ.append_left _ (Memᴰ.append_right s.sofar (Memᴰ.head refl)))))
 
-  pub marks_next : (marks' : List ℕ) → PutsNumber marks marks' c → (y : ℕ) → y ≡ next_of (get_or ws (links_at + x) 0) → Marking ws marks₀ link marks' y
-  marks_next marks' put y e = subst (Marking ws marks₀ link marks') (sym e) (record {
+  pub marks_next : {marks' : List ℕ} {y : ℕ} → PutsNumber marks marks' c → y ≡ next_of (get_or ws (links_at + x) 0) → Marking ws marks₀ link marks' y
+  marks_next {marks'} put e = subst (Marking ws marks₀ link marks') (sym e) (record {
     threaded = beside_threaded ws x s.threaded some;
     sofar = s.sofar ++ (this ∷ []);
     marked = marks_on ws marks₀ marks marks' s.sofar (this ∷ []) s.marked (marks_one ws marks marks' this c is_cell put);
@@ -145,5 +145,5 @@ module _ (ws : List ℕ) (words : (i : ℕ) → get_or ws i 0 < 2 ^ 64) (marks�
     low = s.low;
   })
 
-  pub fewer : (y : ℕ) → y ≡ next_of (get_or ws (links_at + x) 0) → size_at ws y < size_at ws x
-  fewer y e = let z = sizes ws words x s.threaded some in let a = ap (size_at ws) e in omega arith
+  pub fewer : {y : ℕ} → y ≡ next_of (get_or ws (links_at + x) 0) → size_at ws y < size_at ws x
+  fewer e = let z = sizes ws words x s.threaded some in let a = ap (size_at ws) e in omega arith

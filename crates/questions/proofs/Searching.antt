@@ -8,6 +8,7 @@ use Prim.Native.Nat.{ℕ, zero, suc, ◌+◌, ◌-◌, ◌^◌, ◌≤◌, ◌<�
 use native.Mathlib.Omega.{arith}
 use native.Mathlib.Decide.{ℕ_discrete}
 use lib.ListN.{length, get_or, set, length-set}
+use Rattle.std.proofs.Common.{Some, None, MutBor}
 use lib.Seq.{get_or-set_same, get_or-set_other, get_or-take}
 use Rattle.layout.specs.Layout.{rule_numbers, nodes_limit, links_at, last_link, tree_words}
 use Rattle.bits.specs.Numbers.{Member, NumberSet}
@@ -24,10 +25,12 @@ use Rattle.book.specs.Memory.{view, rule_at, Passing, rules_in}
 use Rattle.book.specs.Holding.{at_holds, holds_at}
 use Rattle.book.specs.Promises.{IsTerm}
 use Rattle.questions.specs.declared.Point.{Point}
-use Rattle.questions.specs.declared.turning.Points.{Points}
+use Rattle.questions.specs.declared.Points.{Points}
+use Rattle.questions.specs.declared.trying.Way.{Way}
+use Rattle.questions.specs.declared.turning.Rest.{Rest}
 use Rattle.questions.specs.Demand2.{term_form}
 use Rattle.questions.specs.Walk.{next, good, found, found_rule, rule_found}
-use Rattle.questions.specs.Promises.{walk_before, size_at, height_at, hits_at, Ready, Marked, Parts, Steady, Goes, gone, parts, Went, Rooted, Answering, Searched}
+use Rattle.questions.specs.Promises.{walk_before, size_at, height_at, hits_at, Ready, Marked, point, Parts, Steady, Went, Pops, Pushes, Rooted, Answering, Searched}
 use Rattle.questions.proofs.Leaving.{positive}
 use Rattle.questions.proofs.Marking.{marks_none, marks_on}
 use Rattle.questions.proofs.Threads as threads
@@ -119,6 +122,7 @@ module _ (fq fr : Bool) (ws q : List ℕ) (b : Book ws q) where
     unfolding all
     root_ready = record {
       threaded = record { passing = b.passing; used = λ n f. ((threads.tree ws b.passing).goes (child 0) tt (sym first_is ∙ f)).used };
+      words = b.words;
       short = (whole_term q (length q) b.whole).short;
       inside = omega arith;
       few = (let h = root_low in omega arith);
@@ -134,7 +138,7 @@ module _ (fq fr : Bool) (ws q : List ℕ) (b : Book ws q) where
       long = long;
       deep = omega arith;
       sofar = [];
-      marked = marks_none ws marks set;
+      marked = marks_none set;
       total = append-nil _ ∙ ap (hits_at fq fr ws q) is ∙ root_hits;
       stand = λ j h. let z : 0 ≡ j = omega arith in subst (λ (i : ℕ). Good fq fr ws q (point_at l i) i) z
           (subst (λ (p : Point). Good fq fr ws q p 0) (sym is) (record { ready = root_ready; high = (let h = root_low in omega arith) }));
@@ -199,85 +203,84 @@ module _ (fq fr : Bool) (ws q marks₀ marks : List ℕ) (l : List Point) (depth
     last : Good fq fr ws q p (depth - 1)
     last = s.stand (depth - 1) (omega arith)
 
-    pub stood : Steady fq fr ws q marks (point_at l (depth - 1)) depth
-    stood = record { ready = last.ready; map = s.marked.map; some = h; deep = s.deep }
+    -- after a turn some nodes more are marked
+    module _ (marks' nodes : List ℕ) (m : Marked ws marks marks' nodes) where
+      marked' : Marked ws marks₀ marks' (s.sofar ++ nodes)
+      marked' = marks_on ws marks₀ marks marks' s.sofar nodes s.marked m
 
-    -- a turn
-    module _ (marks' : List ℕ) (r : Points) where
-      abbrev one : List Point
-      one = set l (depth - 1) r.waits
+      abbrev rest : List ℕ
+      rest = waiting fq fr ws q l (depth - 1)
 
-      abbrev two : List Point
-      two = set (set l (depth - 1) r.waits) depth r.beside
+      total' : (x y : List ℕ) → hits_at fq fr ws q p ≡ nodes ++ x → x ++ rest ≡ y → (s.sofar ++ nodes) ++ y ≡ all fq fr ws q i.0
+      total' x y e f =
+          ap (λ (z : List ℕ). (s.sofar ++ nodes) ++ z) (sym f) ∙ append_assoc s.sofar nodes (x ++ rest)
+          ∙ ap (λ (z : List ℕ). s.sofar ++ z)
+          (sym (append_assoc nodes x rest) ∙ ap (λ (z : List ℕ). z ++ rest) (sym e) ∙ sym (waiting_last fq fr ws q l depth h)) ∙ s.total
 
-      abbrev l' : List Point
-      l' = set (set (set l (depth - 1) r.waits) depth r.beside) (depth + 1) r.below
+      -- nothing is left of the last point, and it goes
+      goes_away : hits_at fq fr ws q p ≡ nodes → Again fq fr ws q marks₀ l depth marks' l (depth - 1)
+      goes_away e = record {
+        again = (
+          i.0,
+          record {
+            long = s.long;
+            deep = (let d = s.deep in omega arith);
+            sofar = s.sofar ++ nodes;
+            marked = marked';
+            total = total' [] _ (e ∙ sym (append-nil nodes)) refl;
+            stand = λ j a. s.stand j (omega arith);
+          },
+        );
+        fewer = (let c = left_last ws l depth h in let d = positive (trie (view ws).tree p.link) in omega arith);
+      }
 
-      long' : length l' ≡ 36
-      long' = length-set two (depth + 1) r.below ∙ length-set one depth r.beside ∙ length-set l (depth - 1) r.waits ∙ s.long
+      -- three points stand in its place
+      module _ (r : Rest) (t : Parts fq fr ws q p nodes (point r.below) (point r.beside) (point r.waits)) where
+        abbrev one : List Point
+        one = set l (depth - 1) (point r.waits)
 
-      -- the points before it stay
-      others : (j : ℕ) → j < depth - 1 → point_at l' j ≡ point_at l j
-      others j a = get_or-set_other two (depth + 1) j r.below _ (λ e. omega arith) ∙ get_or-set_other one depth j r.beside _ (λ e. omega arith)
-          ∙ get_or-set_other l (depth - 1) j r.waits _ (λ e. omega arith)
+        abbrev two : List Point
+        two = set (set l (depth - 1) (point r.waits)) depth (point r.beside)
 
-      waits_is : point_at l' (depth - 1) ≡ r.waits
-      waits_is = get_or-set_other two (depth + 1) (depth - 1) r.below _ (λ e. omega arith)
-          ∙ get_or-set_other one depth (depth - 1) r.beside _ (λ e. omega arith) ∙ get_or-set_same l (depth - 1) r.waits _ (let d = s.deep in omega (arith, s.long))
+        abbrev l' : List Point
+        l' = set (set (set l (depth - 1) (point r.waits)) depth (point r.beside)) (depth + 1) (point r.below)
 
-      beside_is : point_at l' depth ≡ r.beside
-      beside_is = get_or-set_other two (depth + 1) depth r.below _ (λ e. omega arith)
-          ∙ get_or-set_same one depth r.beside _ (let d = s.deep in omega (arith, s.long, length-set l (depth - 1) r.waits))
+        long' : length l' ≡ 36
+        long' = length-set two (depth + 1) (point r.below) ∙ length-set one depth (point r.beside) ∙ length-set l (depth - 1) (point r.waits) ∙ s.long
 
-      below_is : point_at l' (suc depth) ≡ r.below
-      below_is = let up : suc depth ≡ depth + 1 = omega arith in
-          ap (point_at l') up ∙ get_or-set_same two (depth + 1) r.below _
-          (let d = s.deep in omega (arith, s.long, length-set l (depth - 1) r.waits, length-set one depth r.beside))
+        -- the points before it stay
+        others : (j : ℕ) → j < depth - 1 → point_at l' j ≡ point_at l j
+        others j a = get_or-set_other two (depth + 1) j (point r.below) _ (λ e. omega arith) ∙ get_or-set_other one depth j (point r.beside) _ (λ e. omega arith)
+            ∙ get_or-set_other l (depth - 1) j (point r.waits) _ (λ e. omega arith)
 
-      stand' : (j : ℕ) → j < depth - 1 → Good fq fr ws q (point_at l' j) j
-      stand' j a = subst (λ (x : Point). Good fq fr ws q x j) (sym (others j a)) (s.stand j (omega arith))
+        waits_is : point_at l' (depth - 1) ≡ (point r.waits)
+        waits_is = get_or-set_other two (depth + 1) (depth - 1) (point r.below) _ (λ e. omega arith)
+            ∙ get_or-set_other one depth (depth - 1) (point r.beside) _ (λ e. omega arith) ∙ get_or-set_same l (depth - 1) (point r.waits) _ (let d = s.deep in omega (arith, s.long))
 
-      module _ (nodes : List ℕ) (m : Marked ws marks marks' nodes) where
-        marked' : Marked ws marks₀ marks' (s.sofar ++ nodes)
-        marked' = marks_on ws marks₀ marks marks' s.sofar nodes s.marked m
+        beside_is : point_at l' depth ≡ (point r.beside)
+        beside_is = get_or-set_other two (depth + 1) depth (point r.below) _ (λ e. omega arith)
+            ∙ get_or-set_same one depth (point r.beside) _ (let d = s.deep in omega (arith, s.long, length-set l (depth - 1) (point r.waits)))
 
-        abbrev rest : List ℕ
-        rest = waiting fq fr ws q l (depth - 1)
+        below_is : point_at l' (suc depth) ≡ (point r.below)
+        below_is = let up : suc depth ≡ depth + 1 = omega arith in
+            ap (point_at l') up ∙ get_or-set_same two (depth + 1) (point r.below) _
+            (let d = s.deep in omega (arith, s.long, length-set l (depth - 1) (point r.waits), length-set one depth (point r.beside)))
 
-        total' : (x y : List ℕ) → hits_at fq fr ws q p ≡ nodes ++ x → x ++ rest ≡ y → (s.sofar ++ nodes) ++ y ≡ all fq fr ws q i.0
-        total' x y e f =
-            ap (λ (z : List ℕ). (s.sofar ++ nodes) ++ z) (sym f) ∙ append_assoc s.sofar nodes (x ++ rest)
-            ∙ ap (λ (z : List ℕ). s.sofar ++ z)
-            (sym (append_assoc nodes x rest) ∙ ap (λ (z : List ℕ). z ++ rest) (sym e) ∙ sym (waiting_last fq fr ws q l depth h)) ∙ s.total
-
-        goes_away : hits_at fq fr ws q p ≡ nodes → Again fq fr ws q marks₀ l depth marks' l' (depth - 1)
-        goes_away e = record {
-          again = (
-            i.0,
-            record {
-              long = long';
-              deep = (let d = s.deep in omega arith);
-              sofar = s.sofar ++ nodes;
-              marked = marked';
-              total = total' [] _ (e ∙ sym (append-nil nodes)) (sym (waiting_same fq fr ws q l l' (depth - 1) others));
-              stand = stand';
-            },
-          );
-          fewer = (let a = left_same ws l l' (depth - 1) others in let c = left_last ws l depth h in let d = positive (trie (view ws).tree p.link) in omega arith);
-        }
+        stand' : (j : ℕ) → j < depth - 1 → Good fq fr ws q (point_at l' j) j
+        stand' j a = subst (λ (x : Point). Good fq fr ws q x j) (sym (others j a)) (s.stand j (omega arith))
 
         abbrev below : List ℕ
-        below = hits_at fq fr ws q r.below
+        below = hits_at fq fr ws q (point r.below)
 
         abbrev beside : List ℕ
-        beside = hits_at fq fr ws q r.beside
+        beside = hits_at fq fr ws q (point r.beside)
 
         abbrev waits : List ℕ
-        waits = hits_at fq fr ws q r.waits
+        waits = hits_at fq fr ws q (point r.waits)
 
-        comes_apart : Parts fq fr ws q p nodes r.below r.beside r.waits → Again fq fr ws q marks₀ l depth marks' l' (suc (suc depth))
+        comes_apart : Again fq fr ws q marks₀ l depth marks' l' (suc (suc depth))
         unfolding waiting left
-        comes_apart t = record {
+        comes_apart = record {
           again = (
             i.0,
             record {
@@ -306,31 +309,57 @@ module _ (fq fr : Bool) (ws q marks₀ marks : List ℕ) (l : List Point) (depth
             first = waiting_last fq fr ws q l' depth h
                 ∙ ap₂ (λ (x : Point) (y : List ℕ). hits_at fq fr ws q x ++ y) waits_is (waiting_same fq fr ws q l l' (depth - 1) others)
 
+            good : {x y : Point} {level : ℕ} → x ≡ y → Ready fq fr ws q y → level + height_at ws y.link ≤ 33 → Good fq fr ws q x level
+            good {level = level} e r high = subst (λ (x : Point). Good fq fr ws q x level) (sym e) (record { ready = r; high = high })
+
             stands : (j : ℕ) → Dec (j ≡ suc depth) → Dec (j ≡ depth) → Dec (j ≡ depth - 1) → j < suc (suc depth) → Good fq fr ws q (point_at l' j) j
             stands j (yes e) f g a = subst (λ (i : ℕ). Good fq fr ws q (point_at l' i) i) (sym e)
-                (subst (λ (x : Point). Good fq fr ws q x (suc depth)) (sym below_is) (record {
-                  ready = t.below_ready;
-                  high = (let b = last.high in
-                      let c = t.deepest in omega arith);
-                }))
+                (good below_is t.below_ready (let b = last.high in let c = t.deepest in omega arith))
             stands j (no e) (yes f) g a = subst (λ (i : ℕ). Good fq fr ws q (point_at l' i) i) (sym f)
-                (subst (λ (x : Point). Good fq fr ws q x depth) (sym beside_is) (record {
-                  ready = t.beside_ready;
-                  high = (let b = last.high in
-                      let c = t.deeper in omega arith);
-                }))
+                (good beside_is t.beside_ready (let b = last.high in let c = t.deeper in omega arith))
             stands j (no e) (no f) (yes g) a = subst (λ (i : ℕ). Good fq fr ws q (point_at l' i) i) (sym g)
-                (subst (λ (x : Point). Good fq fr ws q x (depth - 1)) (sym waits_is) (record {
-                  ready = t.waits_ready;
-                  high = (let b = last.high in
-                      let c = t.level in omega arith);
-                }))
+                (good waits_is t.waits_ready (let b = last.high in let c = t.level in omega arith))
             stands j (no e) (no f) (no g) a = stand' j (omega arith)
 
-        after : Goes fq fr ws q p nodes depth r → Again fq fr ws q marks₀ l depth marks' l' r.depth
-        after (gone e d) = subst (Again fq fr ws q marks₀ l depth marks' l') (sym d) (goes_away e)
-        after (parts t d) = let up : suc (suc depth) ≡ r.depth = omega (arith, d) in subst (Again fq fr ws q marks₀ l depth marks' l') up (comes_apart t)
+  -- the last point is taken from the list
+  module _ {a b : Points} {o : Way} (has : a.list.now ≡ l) (deep : a.depth ≡ depth) (t : Pops a b (Some o)) where
+    stands : 0 < depth
+    stands = let e = t.taken.0 in omega arith
 
-      pub turned : Went fq fr ws q marks marks' (point_at l (depth - 1)) depth r
-          → Again fq fr ws q marks₀ l depth marks' (set (set (set l (depth - 1) r.waits) depth r.beside) (depth + 1) r.below) r.depth
-      turned w = after w.nodes w.marked w.goes
+    left_depth : depth - 1 ≡ b.depth
+    left_depth = let e = t.taken.0 in omega arith
+
+    left_list : l ≡ b.list.now
+    left_list = sym has ∙ sym (ap (λ (z : MutBor (List Point)). z.now) t.same)
+
+    its : point o ≡ point_at l (depth - 1)
+    its = t.taken.1 ∙ ap₂ point_at has (sym left_depth)
+
+    pub stood : Steady fq fr ws q marks (point o)
+    stood = subst (Steady fq fr ws q marks) (sym its) (record { ready = (last stands).ready; map = s.marked.map })
+
+    -- a turn leaves nothing of it
+    pub goes : {marks' : List ℕ} → Went fq fr ws q marks marks' (point o) None → Again fq fr ws q marks₀ l depth marks' b.list.now b.depth
+    goes {marks'} w =
+        let v = subst (λ (z : Point). Went fq fr ws q marks marks' z None) its w in
+        subst (λ (z : List Point). Again fq fr ws q marks₀ l depth marks' z b.depth) left_list
+        (subst (Again fq fr ws q marks₀ l depth marks' l) left_depth (goes_away stands marks' v.nodes v.marked v.goes))
+
+    -- or three points, which are put in its place
+    pub turned : {marks' : List ℕ} {r : Rest} {c d e : Points} → Went fq fr ws q marks marks' (point o) (Some r) → Pushes b c r.waits → Pushes c d r.beside → Pushes d e r.below
+        → Again fq fr ws q marks₀ l depth marks' e.list.now e.depth
+    turned {marks'} {r} {c} {d} {e} w x y z =
+        let v = subst (λ (u : Point). Went fq fr ws q marks marks' u (Some r)) its w in
+        let dc : c.depth ≡ depth = omega (arith, x.depth, left_depth, stands) in
+        let dd : d.depth ≡ depth + 1 = omega (arith, y.depth, dc) in
+        let de : suc (suc depth) ≡ e.depth = omega (arith, z.depth, dd) in
+        let lc = x.list ∙ ap₂ (λ (u : List Point) (n : ℕ). set u n (point r.waits)) (sym left_list) (sym left_depth) in
+        let ld = y.list ∙ ap₂ (λ (u : List Point) (n : ℕ). set u n (point r.beside)) lc dc in
+        let le = z.list ∙ ap₂ (λ (u : List Point) (n : ℕ). set u n (point r.below)) ld dd in
+        subst (λ (u : List Point). Again fq fr ws q marks₀ l depth marks' u e.depth) (sym le)
+        (subst (Again fq fr ws q marks₀ l depth marks' (set (set (set l (depth - 1) (point r.waits)) depth (point r.beside)) (depth + 1) (point r.below))) de
+        (comes_apart stands marks' v.nodes v.marked r v.goes.0))
+
+  -- none stands there
+  pub none_left : {a b : Points} → a.depth ≡ depth → Pops a b None → Searched fq fr ws q marks₀ marks
+  none_left e t = let z = t.taken.0 in ends (omega arith)

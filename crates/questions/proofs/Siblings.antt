@@ -8,6 +8,7 @@ use native.Mathlib.Omega.{arith}
 use native.Mathlib.Decide.{ℕ_discrete, dec_lt}
 use borrow.Author.Tests.{lt-ltb, le-ltb, ne_eqb}
 use lib.ListN.{length, get_or, drop}
+use Rattle.std.proofs.Common.{Option, Some, None}
 use Rattle.deciding.specs.Deciding.{pick}
 use Rattle.layout.specs.Layout.{links_at}
 use Rattle.term.specs.Cells.{Cell, vari, symb, star, Row, Blank, arity, blank_of, blank_form}
@@ -18,7 +19,7 @@ use Rattle.shape.specs.Trie.{trie}
 use Rattle.shape.specs.Search.{size}
 use Rattle.book.specs.Memory.{view}
 use Rattle.questions.specs.Walk.{reading, next}
-use Rattle.questions.specs.Promises.{walk_before, PassesBy, start, pass_on, Sought, reached, beyond, Skips, stay, skip_on, Decisive, LastWanted, Threaded}
+use Rattle.questions.specs.Promises.{walk_before, PassesBy, start, pass_on, Sought, reached, ended, beyond, Skips, stay, skip_on, Decisive, LastWanted, Threaded}
 use Rattle.questions.proofs.Threads.{beside_threaded, beside_smaller, beside_above}
 
 -- a symbol and a variable as blank forms have them
@@ -39,7 +40,7 @@ module _ (fq fr : Bool) (q : List ℕ) (place d : ℕ) (h : place < length q) wh
   met : next fq fr d (walk_before q 0 place) ≡ reading (meet fq fr (blank_of d) (blank_of (get_or q place 0)) (drop (suc place) (blank_form q)))
   met = ap (λ (r : Row Blank). next fq fr d (reading (at 0 r))) (cells_from q place h)
 
-  pub met_step : next fq fr d (walk_before q 0 place) ≡ reading (step fq fr (blank_of d) (spot q true 0 place))
+  pub met_step : next fq fr d (walk_before q 0 place) ≡ reading (step fq fr (blank_of d) (spot q 0 place))
   met_step = ap (λ (r : Row Blank). next fq fr d (reading (at 0 r))) (cells_from q place h)
       ∙ sym (ap (λ (r : Row Blank). reading (step fq fr (blank_of d) (at 0 r))) (cells_from q place h))
 
@@ -67,23 +68,19 @@ module _ (fq fr : Bool) (q : List ℕ) (place d : ℕ) (h : place < length q) wh
       ∙ ap (λ (b : Bool). reading (only_if b (at 0 (past (get_or q place 0 / 4096) (drop (suc place) (blank_form q)))))) f
 
 pub one_symbol : (fq : Bool) (q : List ℕ) (place : ℕ) → place < length q → get_or q place 0 < 32768 → Decisive fq q place (get_or q place 0)
-one_symbol fq q place h l = record
-    { free = λ e. absurd (omega arith); symbols = λ _ fr d s n. other_symbol fq fr q place d h s l n; any = λ _ d n. go d n (dec_lt d 32768) }
+one_symbol fq q place h l = record { symbols = λ fr d s n. other_symbol fq fr q place d h s l n; any = λ _ d n. go d n (dec_lt d 32768) }
   where
     go : (d : ℕ) → ¬ (d ≡ get_or q place 0) → Dec (d < 32768) → next fq false d (walk_before q 0 place) ≡ reading failed
     go d n (yes s) = other_symbol fq false q place d h s l n
     go d n (no s) = no_blank fq false q place d h (omega arith) l refl
 
 pub no_symbols : (fq : Bool) (q : List ℕ) (place : ℕ) → place < length q → 32768 ≤ get_or q place 0 → fq ≡ false → Decisive fq q place 32768
-no_symbols fq q place h l f = record { free = λ e. absurd (omega arith); symbols = λ _ fr d s n. no_symbol fq fr q place d h s l f; any = λ x. absurd (omega arith) }
-
-pub any_cell : (fq : Bool) (q : List ℕ) (place : ℕ) → fq ≡ true → 32768 ≤ get_or q place 0 → Decisive fq q place 65536
-any_cell fq q place f l = record { free = λ _. (f, l); symbols = λ n. absurd (n refl); any = λ x. absurd (omega arith) }
+no_symbols fq q place h l f = record { symbols = λ fr d s n. no_symbol fq fr q place d h s l f; any = λ x. absurd (omega arith) }
 
 -- what is passed by is skipped
-skipping : (fq fr : Bool) (ws q : List ℕ) (place cell link x : ℕ) → ¬ (cell ≡ 65536) → Decisive fq q place cell → PassesBy ws cell link x → Skips fq fr ws q place link x
-skipping fq fr ws q place cell link x n d start = stay
-skipping fq fr ws q place cell link x n d (pass_on by some low other) = skip_on (skipping fq fr ws q place cell link _ n d by) some (d.symbols n fr _ low other)
+skipping : (fq fr : Bool) (ws q : List ℕ) (place cell link x : ℕ) → Decisive fq q place cell → PassesBy ws cell link x → Skips fq fr ws q place link x
+skipping fq fr ws q place cell link x d start = stay
+skipping fq fr ws q place cell link x d (pass_on by some low other) = skip_on (skipping fq fr ws q place cell link _ d by) some (d.symbols fr _ low other)
 
 -- a link that was passed by is of the tree
 threaded : (ws : List ℕ) (cell link x : ℕ) → Threaded ws link → PassesBy ws cell link x → Threaded ws x
@@ -109,12 +106,16 @@ module _ (fq : Bool) (ws q : List ℕ) (place link cell : ℕ) (small : cell < 3
           (λ ny. let b = beside_above ws x t nz ny in omega arith)
           (skip_on k nz (d.any small (cell_of (get_or ws (links_at + x) 0)) (λ e. absurd (omega arith))))
 
-pub seeking : (fq fr : Bool) (ws q : List ℕ) (place link cell last r : ℕ) → ((i : ℕ) → get_or ws i 0 < 2 ^ 64) → Threaded ws link → ¬ (cell ≡ 65536)
-    → Decisive fq q place cell
-    → LastWanted fr cell last → Sought ws cell last link r → Skips fq fr ws q place link r
-seeking fq fr ws q place link cell last r words t n d w (reached by) = skipping fq fr ws q place cell link r n d by
-seeking fq fr ws q place link cell last r words t n d (inr e) (beyond {x} by some above low z) = absurd (omega arith)
-seeking fq fr ws q place link cell last r words t n d (inl e) (beyond {x} by some above low z) =
-    subst (λ (b : Bool). Skips fq b ws q place link r) (sym e.0) (subst (Skips fq false ws q place link) (sym z)
+-- the link that was found, 0 for none
+abbrev pub found_link : Option ℕ → ℕ
+found_link (Some x) = x
+found_link None = 0
+
+pub seeking : {fq fr : Bool} {ws q : List ℕ} {place link cell last : ℕ} {r : Option ℕ} → ((i : ℕ) → get_or ws i 0 < 2 ^ 64) → Threaded ws link
+    → Decisive fq q place cell → LastWanted fr cell last → Sought ws cell last link r → Skips fq fr ws q place link (found_link r)
+seeking {fq} {fr} {ws} {q} {place} {link} {cell} words t d w (reached {r = x} by some) = skipping fq fr ws q place cell link x d by
+seeking {fq} {fr} {ws} {q} {place} {link} {cell} words t d w (ended {x} by z) = subst (Skips fq fr ws q place link) z (skipping fq fr ws q place cell link x d by)
+seeking words t d (inr e) (beyond {x} by some above low) = absurd (omega arith)
+seeking {fq} {fr} {ws} {q} {place} {link} {cell} words t d (inl e) (beyond {x} by some above low) = subst (λ (b : Bool). Skips fq b ws q place link 0) (sym e.0)
     (to_the_end fq ws q place link cell (let f = e.1 in omega arith) d words (size (trie (view ws).tree x)) x (omega arith)
-    (threaded ws cell link x t by) (λ _. (let f = e.1 in omega arith)) (skipping fq false ws q place cell link x n d by)))
+    (threaded ws cell link x t by) (λ _. (let f = e.1 in omega arith)) (skipping fq false ws q place cell link x d by))

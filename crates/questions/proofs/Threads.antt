@@ -6,7 +6,7 @@ use native.Mathlib.Omega.{arith}
 use native.Mathlib.Decide.{dec_lt}
 use lib.ListN.{length, get_or, take, length-take, get_or-eq_default}
 use lib.Seq.{get_or-take}
-use Rattle.layout.specs.Layout.{links_at, last_link, tree_words}
+use Rattle.layout.specs.Layout.{links_at, last_link, tree_words, book_words}
 use Rattle.shape.specs.Shape.{after, Used, Tree}
 use Rattle.links.specs.Words.{cell_of, next_of, word}
 use Rattle.shape.specs.Rows.{passes_tree}
@@ -94,3 +94,7 @@ module _ (ws : List ℕ) (x : ℕ) (t : Threaded ws x) (some : ¬ (x ≡ 0)) whe
       subst (λ (k : ℕ). cell_of (get_or ws (links_at + x) 0) < cell_of (get_or ws (links_at + k) 0)) (sym ey)
       (subst (λ (k : ℕ). cell_of (get_or ws (links_at + k) 0) < cell_of (get_or ws (links_at + suc y) 0)) (sym is)
       (next_above ws t.passing n (t.used n is) y (ap (λ (k : ℕ). next_of (get_or ws (links_at + k) 0)) (sym is) ∙ ey)))
+
+-- a node's word lies in the memory
+pub inside : {ws : List ℕ} {x : ℕ} → Threaded ws x → ¬ (x ≡ 0) → (length ws ≡ book_words) × (x ≤ last_link)
+inside {ws} {x} t some = (t.passing.size, in_tree ws x t some)

@@ -1,19 +1,75 @@
--- Writing the list: up to each mark the numbers before it stand in front, and the cells behind them are as they were.
-use mathlib.Core.Path.{◌≡◌, refl, sym, ap, ap₂, ◌∙◌}
+-- Writing the list: what has come stands in front, and the cells behind it are as they were.
+use mathlib.Core.Path.{◌≡◌, refl, sym, ap, ap₂, ◌∙◌, subst}
 use mathlib.Core.List.{List, [], ◌∷◌, ◌++◌, append_assoc}
-use mathlib.Core.Bool.{Bool}
-use Prim.Native.Nat.{ℕ, zero, suc, ◌+◌, ◌-◌, ◌≤◌, ◌<◌}
+use mathlib.Core.Bool.{Bool, true, false, cond}
+use Prim.Native.Nat.{ℕ, zero, suc, ◌+◌, ◌≤◌, ◌<◌}
 use native.Mathlib.Omega.{arith}
-use lib.ListN.{length, set, drop, length-append, length-drop}
+use lib.ListN.{length, get_or, set, drop}
+use Rattle.std.proofs.lemmas.List.{map-id}
+use Rattle.std.proofs.lemmas.Iterator.{YieldsList}
+use Rattle.std.proofs.lemmas.Iterator.Consumers.{YieldsList-from_first, YieldsList-turn, YieldsList-end}
+use Rattle.std.specs.Prelude.{Option, Some, None}
+use Rattle.std.specs.Iterator.{Yields, YieldsFirst}
+use Rattle.bits.specs.declared.numbers.Ascending.{Ascending}
 use Rattle.layout.specs.Layout.{rule_numbers}
-use Rattle.bits.specs.Numbers.{has, Member, NumberSet, NextNumber}
-use Rattle.shape.specs.Tallies.{tally_le}
-use Rattle.book.specs.Rules.{Rules, each}
-use Rattle.questions.specs.Asking.{numbers, numbers_in_order, keep_if}
-use Rattle.questions.specs.Promises.{Lists}
-use Rattle.questions.specs.Listing.{numbers_skip, numbers_one, numbers_more, numbers_tally}
+use Rattle.bits.specs.Numbers.{has, members, members_on}
+use Rattle.book.specs.Rules.{each}
+use Rattle.questions.specs.Asking.{numbers, keep_if}
 
--- ---- from mark to mark
+-- ---- the numbers that come are those that are marked
+
+each_member : (marks : List ℕ) (n k : ℕ) → each (λ j. keep_if (has marks j) j) n k ≡ members marks n k
+unfolding each members
+each_member marks zero k = refl
+each_member marks (suc n) k = kept (has marks k) k _ _ (each_member marks n (suc k))
+  where
+    kept : (b : Bool) (k : ℕ) (xs ys : List ℕ) → xs ≡ ys → keep_if b k ++ xs ≡ cond b (k ∷ ys) ys
+    kept true k xs ys e = ap (λ (z : List ℕ). k ∷ z) e
+    kept false k xs ys e = e
+
+pub all_members : (marks : List ℕ) → members marks rule_numbers 0 ≡ numbers (has marks) rule_numbers
+all_members marks = sym (each_member marks rule_numbers 0)
+
+pub few : (marks : List ℕ) (n k : ℕ) → length (members marks n k) ≤ n
+unfolding members
+few marks zero k = omega arith
+few marks (suc n) k = kept (has marks k) (few marks n (suc k))
+  where
+    kept : (b : Bool) → length (members marks n (suc k)) ≤ n → length (cond b (k ∷ members marks n (suc k)) (members marks n (suc k))) ≤ suc n
+    kept true h = omega arith
+    kept false h = omega arith
+
+low : (marks : List ℕ) (n k i d : ℕ) → i < length (members marks n k) → get_or (members marks n k) i d < k + n
+unfolding members
+low marks zero k i d h = absurd (omega arith)
+low marks (suc n) k i d h = kept (has marks k) (λ j. low marks n (suc k) j d) i h
+  where
+    kept : (b : Bool) → ((j : ℕ) → j < length (members marks n (suc k)) → get_or (members marks n (suc k)) j d < suc k + n) → (i : ℕ)
+        → i < length (cond b (k ∷ members marks n (suc k)) (members marks n (suc k)))
+        → get_or (cond b (k ∷ members marks n (suc k)) (members marks n (suc k))) i d < k + suc n
+    kept true f zero h = omega arith
+    kept true f (suc i) h = let q = f i (omega arith) in omega arith
+    kept false f i h = let q = f i h in omega arith
+
+-- ---- the loop over them, which has given xs
+
+abbrev left : Ascending → List ℕ
+left s = members_on s.map.now s.next
+
+module _ (marks : List ℕ) (made it : Ascending) (e : left made ≡ members marks 4096 0) (same : it ≡ made) (xs : List ℕ) (t : Ascending) (y : Yields (YieldsFirst left) it xs t)
+    (r : Option ℕ) (u : Ascending) (steps : YieldsFirst left t r u) where
+  road : YieldsList (YieldsFirst left) (λ x. x) it (members marks 4096 0)
+  road = YieldsList-from_first (λ x. x) left (members marks 4096 0) (ap left same ∙ e)
+
+  pub turn : (x : ℕ) → r ≡ Some x → (length xs < length (numbers (has marks) rule_numbers)) × (x < 4096)
+  turn x is =
+      let q = YieldsList-turn road xs t y r u x is steps in
+      (subst (λ (z : List ℕ). length xs < length z) (all_members marks) q.0, omega (arith, low marks 4096 0 (length xs) x q.0, q.1))
+
+  pub end : r ≡ None → xs ≡ numbers (has marks) rule_numbers
+  end is = sym (map-id xs) ∙ (YieldsList-end road xs t y r u is steps).0 ∙ all_members marks
+
+-- ---- one more is written
 
 set_end : (xs zs : List ℕ) (v : ℕ) → set (xs ++ zs) (length xs) v ≡ xs ++ set zs 0 v
 set_end [] zs v = refl
@@ -24,84 +80,10 @@ set_drop n [] v h = absurd (omega arith)
 set_drop zero (y ∷ ys) v h = refl
 set_drop (suc n) (y ∷ ys) v h = set_drop n ys v (omega arith)
 
--- the walk has come to k, a mark or the end, and n numbers are marked before it
-pub record Counted (marks : List ℕ) (n k : ℕ) : Type 0 where
-  pub map : NumberSet marks
-  pub upto : k ≤ rule_numbers
-  pub here : k < rule_numbers → Member marks k
-  pub count : n ≡ length (numbers (has marks) k)
-
--- and they stand in front
-pub record Written (marks out₀ out : List ℕ) (n k : ℕ) : Type 0 where
-  pub counted : Counted marks n k
-  pub fits : length (numbers (has marks) rule_numbers) ≤ length out₀
-  pub is : out ≡ numbers (has marks) k ++ drop n out₀
-
--- no mark between
-skips : (marks : List ℕ) (a b : ℕ) → NextNumber marks a rule_numbers b → numbers (has marks) b ≡ numbers (has marks) a
-skips marks a b f = numbers_skip (has marks) a b f.after f.before
-
-pub begins_count : (marks : List ℕ) (k : ℕ) → NumberSet marks → NextNumber marks 0 rule_numbers k → Counted marks 0 k
-unfolding each
-begins_count marks k map f = record { map = map; upto = f.within; here = f.here; count = ap length (sym (skips marks 0 k f)) }
-
-pub begins : (marks out : List ℕ) (k : ℕ) → NumberSet marks → length (numbers (has marks) rule_numbers) ≤ length out → NextNumber marks 0 rule_numbers k
-    → Written marks out out 0 k
-unfolding each
-begins marks out k map fits f = record { counted = begins_count marks k map f; fits = fits; is = ap (λ (z : List ℕ). z ++ out) (sym (skips marks 0 k f)) }
-
-module _ (marks : List ℕ) (n k : ℕ) (c : Counted marks n k) where
-  pub few : n ≤ rule_numbers
-  few = omega (arith, c.count, c.upto, numbers_tally (has marks) k, tally_le (has marks) k)
-
-  pub all_counted : rule_numbers ≤ k → n ≡ length (numbers (has marks) rule_numbers)
-  all_counted h = c.count ∙ ap (λ (j : ℕ). length (numbers (has marks) j)) (let e : k ≡ rule_numbers = omega (arith, c.upto) in e)
-
-  module _ (h : k < rule_numbers) where
-    one_more : numbers (has marks) (suc k) ≡ numbers (has marks) k ++ (k ∷ [])
-    one_more = numbers_one (has marks) k ∙ ap (λ (b : Bool). numbers (has marks) k ++ keep_if b k) (c.here h)
-
-    longer : length (numbers (has marks) (suc k)) ≡ suc n
-    longer = ap length one_more ∙ length-append (numbers (has marks) k) (k ∷ []) ∙ omega (arith, c.count)
-
-    module _ (k' : ℕ) (f : NextNumber marks (k + 1) rule_numbers k') where
-      same : numbers (has marks) k' ≡ numbers (has marks) (suc k)
-      same = skips marks (k + 1) k' f ∙ ap (numbers (has marks)) (let e : k + 1 ≡ suc k = omega arith in e)
-
-      pub counts_on : Counted marks (n + 1) k'
-      counts_on = record { map = c.map; upto = f.within; here = f.here; count = omega (arith, longer, ap length same) }
-
-      pub less : rule_numbers - k' < rule_numbers - k
-      less = let a = f.after in omega arith
-
-module _ (marks out₀ out : List ℕ) (n k : ℕ) (w : Written marks out₀ out n k) where
-  module _ (h : k < rule_numbers) where
-    before_end : n < length out₀
-    before_end = let m = numbers_more (has marks) (suc k) rule_numbers (omega arith) in let l = longer marks n k w.counted h in let f = w.fits in omega arith
-
-    pub place_in : n < length out
-    place_in = omega (arith, before_end, ap length w.is ∙ length-append (numbers (has marks) k) (drop n out₀), length-drop n out₀, w.counted.count)
-
-    pub writes : (k' c : ℕ) → c ≡ k → NextNumber marks (k + 1) rule_numbers k' → Written marks out₀ (set out n c) (n + 1) k'
-    writes k' c ec f = record {
-      counted = counts_on marks n k w.counted h k' f;
-      fits = w.fits;
-      is = ap₂ (λ (i : ℕ) (z : List ℕ). set z i c) w.counted.count w.is ∙ set_end (numbers (has marks) k) (drop n out₀) c
-          ∙ ap (λ (z : List ℕ). numbers (has marks) k ++ z) (set_drop n out₀ c before_end ∙ ap₂ (λ (x y : ℕ). x ∷ drop y out₀) ec next_n)
-          ∙ sym (append_assoc (numbers (has marks) k) (k ∷ []) (drop (n + 1) out₀))
-          ∙ ap (λ (z : List ℕ). z ++ drop (n + 1) out₀) (sym (same marks n k w.counted h k' f ∙ one_more marks n k w.counted h));
-    }
-      where
-        next_n : suc n ≡ n + 1
-        next_n = omega arith
-
-  pub written : rule_numbers ≤ k → (rules : Rules) → Lists rules marks out₀ out n
-  unfolding numbers_in_order
-  written h rules =
-      let e : k ≡ rule_numbers = omega (arith, w.counted.upto) in
-      record { count = all_counted marks n k w.counted h; is = w.is ∙ ap (λ (j : ℕ). numbers (has marks) j ++ drop n out₀) e }
-
-  pub still_long : length out ≡ length out₀
-  still_long =
-      let m = numbers_more (has marks) k rule_numbers w.counted.upto in let f = w.fits in
-      omega (arith, ap length w.is ∙ length-append (numbers (has marks) k) (drop n out₀), length-drop n out₀, w.counted.count)
+pub one_more : (xs out₀ out : List ℕ) (n v : ℕ) → n ≡ length xs → n < length out₀ → out ≡ xs ++ drop n out₀ → set out n v ≡ (xs ++ (v ∷ [])) ++ drop (n + 1) out₀
+one_more xs out₀ out n v e h is =
+    ap₂ (λ (i : ℕ) (z : List ℕ). set z i v) e is ∙ set_end xs (drop n out₀) v ∙ ap (λ (z : List ℕ). xs ++ z) (set_drop n out₀ v h)
+    ∙ ap (λ (i : ℕ). xs ++ (v ∷ drop i out₀)) next ∙ sym (append_assoc xs (v ∷ []) (drop (n + 1) out₀))
+  where
+    next : suc n ≡ n + 1
+    next = omega arith

@@ -1,5 +1,5 @@
 -- What the search promises.
-use Rattle.std.specs.Prelude.{◌≡◌, ◌⊎◌, ◌↔◌, Bool, true, false, ℕ, suc, ◌+◌, ◌-◌, ◌*◌, ◌^◌, ◌≤◌, ◌<◌, length, get_or, drop}
+use Rattle.std.specs.Prelude.{◌≡◌, ◌⊎◌, ◌↔◌, Bool, true, false, ℕ, zero, suc, ◌+◌, ◌*◌, ◌^◌, ◌≤◌, ◌<◌, length, get_or, drop, slice_set, Option, Some, None}
 use mathlib.Core.List.{List, [], ◌∷◌, ◌++◌, Memᴰ}
 use Rattle.layout.specs.Layout.{rule_numbers, links_at, last_link}
 use Rattle.bits.specs.Numbers.{has, Member, NumberSet}
@@ -13,15 +13,18 @@ use Rattle.shape.specs.Search.{hits, size}
 use Rattle.book.specs.Rules.{Rule, rule, Rules}
 use Rattle.book.specs.Memory.{view, Passing, rules_in}
 use Rattle.questions.specs.declared.Point.{Point}
+use Rattle.questions.specs.declared.asking.Question.{Question}
+use Rattle.questions.specs.declared.trying.Way.{Way}
 use Rattle.questions.specs.declared.trying.Ways.{Ways}
-use Rattle.questions.specs.declared.turning.Points.{Points}
+use Rattle.questions.specs.declared.Points.{Points}
+use Rattle.questions.specs.declared.turning.Rest.{Rest}
 use Rattle.questions.specs.Asking.{numbers_in_order}
 use Rattle.questions.specs.Walk.{Walk, reading, next, good}
 use Rattle.links.specs.Siblings.{Onward}
 
 -- At a node whose word is w: the walk before it, and after it.
 abbrev pub walk_before : List ℕ → ℕ → ℕ → Walk
-walk_before question skip place = reading (spot question true skip place)
+walk_before question skip place = reading (spot question skip place)
 
 abbrev pub walk_after : Bool → Bool → List ℕ → ℕ → ℕ → ℕ → Walk
 walk_after fq fr question w skip place = next fq fr (cell_of w) (walk_before question skip place)
@@ -53,11 +56,12 @@ pub record LeapsTo (ws : List ℕ) (cell link r : ℕ) : Type 0 where
   pub threaded : Threaded ws r
   pub by : PassesBy ws cell link r
 
--- Passed by up to r; or up to a symbol above `last`, and r is none.
-pub data Sought (ws : List ℕ) (cell last link r : ℕ) : Type 0 where
-  reached : PassesBy ws cell link r → Sought ws cell last link r
-  beyond : {x : ℕ} → PassesBy ws cell link x → ¬ (x ≡ 0) → last < cell_of (get_or ws (links_at + x) 0) → cell_of (get_or ws (links_at + x) 0) < 32768 → r ≡ 0
-      → Sought ws cell last link r
+-- Passed by up to r; or up to a symbol above `last` or to the end, and there is none.
+pub data Sought (ws : List ℕ) (cell last link : ℕ) : Option ℕ → Type 0 where
+  reached : {r : ℕ} → PassesBy ws cell link r → ¬ (r ≡ 0) → Sought ws cell last link (Some r)
+  ended : {x : ℕ} → PassesBy ws cell link x → x ≡ 0 → Sought ws cell last link None
+  beyond : {x : ℕ} → PassesBy ws cell link x → ¬ (x ≡ 0) → last < cell_of (get_or ws (links_at + x) 0) → cell_of (get_or ws (links_at + x) 0) < 32768
+      → Sought ws cell last link None
 
 -- From the link on, sibling by sibling, where nothing is to be skipped: at each that is passed the machine fails.
 pub data Skips (fq fr : Bool) (ws question : List ℕ) (place link : ℕ) : ℕ → Type 0 where
@@ -65,16 +69,19 @@ pub data Skips (fq fr : Bool) (ws question : List ℕ) (place link : ℕ) : ℕ 
   skip_on : {x : ℕ} → Skips fq fr ws question place link x → ¬ (x ≡ 0) → walk_after fq fr question (get_or ws (links_at + x) 0) 0 place ≡ reading failed
       → Skips fq fr ws question place link (next_of (get_or ws (links_at + x) 0))
 
--- Where it is 65,536 the question's cell may be filled. Else each other symbol makes the machine fail, and where it is a symbol and the rule's blanks
--- may not be filled, any other cell.
+-- Each other symbol makes the machine fail, and where it is a symbol and the rule's blanks may not be filled, any other cell.
 pub record Decisive (fq : Bool) (question : List ℕ) (place cell : ℕ) : Type 0 where
-  pub free : cell ≡ 65536 → (fq ≡ true) × (32768 ≤ get_or question place 0)
-  pub symbols : ¬ (cell ≡ 65536) → (fr : Bool) (d : ℕ) → d < 32768 → ¬ (d ≡ cell) → next fq fr d (walk_before question 0 place) ≡ reading failed
+  pub symbols : (fr : Bool) (d : ℕ) → d < 32768 → ¬ (d ≡ cell) → next fq fr d (walk_before question 0 place) ≡ reading failed
   pub any : cell < 32768 → (d : ℕ) → ¬ (d ≡ cell) → next fq false d (walk_before question 0 place) ≡ reading failed
 
--- The symbol wanted is the last to look at only where the rule's blanks may not be filled.
+-- One cell is wanted, or any, since the question's cell may be filled.
+abbrev pub Wanted : Bool → List ℕ → ℕ → Option ℕ → Type 0
+Wanted fq question place (Some cell) = Decisive fq question place cell
+Wanted fq question place None = (fq ≡ true) × (32768 ≤ get_or question place 0)
+
+-- The symbol wanted is the last cell to look at only where the rule's blanks may not be filled; else it is the highest.
 abbrev pub LastWanted : Bool → ℕ → ℕ → Type 0
-LastWanted fr cell last = ((fr ≡ false) × (last ≡ cell)) ⊎ (last ≡ 65536)
+LastWanted fr cell last = ((fr ≡ false) × (last ≡ cell)) ⊎ (last ≡ 65535)
 
 -- What hangs at a link: how much, and how deep.
 abbrev pub size_at : List ℕ → ℕ → ℕ
@@ -91,6 +98,7 @@ hits_at fq fr ws question p = hits (next fq fr) (good fq fr) (view ws).tree (wal
 -- Each level below can add seven subterms to skip.
 pub record Ready (fq fr : Bool) (ws question : List ℕ) (p : Point) : Type 0 where
   pub threaded : Threaded ws p.link
+  pub words : (i : ℕ) → get_or ws i 0 < 2 ^ 64
   pub short : length question ≤ 32
   pub inside : p.place ≤ length question
   pub few : p.skip + 7 * height_at ws p.link ≤ 231
@@ -114,12 +122,33 @@ pub record RulesBeside (ws : List ℕ) (link : ℕ) : Type 0 where
   pub threaded : Threaded ws link
   pub low : (n : ℕ) → Memᴰ n (siblings ws link) → (view ws).tree.cell n < rule_numbers
 
--- The points that a try leaves: at the node's sibling, and at its first child.
-abbrev pub beside_of : Point → Ways → Point
-beside_of p r = record { link = r.beside; skip = p.skip; place = p.place }
+-- A way is a point in hand.
+abbrev pub point : Way → Point
+point w = record { link = w.link; skip = w.skip; place = w.place }
 
-abbrev pub below_of : Ways → Point
-below_of r = record { link = r.down; skip = r.skip; place = r.place }
+-- It can stand on the list.
+abbrev pub Small : Way → Type 0
+Small w = (w.link ≤ last_link) × ((w.skip ≤ 231) × (w.place ≤ 32))
+
+-- A link as the memory has it: 0 is none.
+abbrev pub linked : ℕ → Option ℕ
+linked zero = None
+linked (suc n) = Some (suc n)
+
+-- The way itself if there is a node at its link, else none.
+pub data AtNode (w : Way) : Option Way → Type 0 where
+  no_node : w.link ≡ 0 → AtNode w None
+  its_node : ¬ (w.link ≡ 0) → AtNode w (Some w)
+
+-- None is like a point without a node: nothing is found from it on.
+abbrev pub point_of : Option Way → Point
+point_of (Some w) = point w
+point_of None = record { link = 0; skip = 0; place = 0 }
+
+-- There is a node at its link.
+abbrev pub HasNode : Option Way → Type 0
+HasNode (Some w) = ¬ (w.link ≡ 0)
+HasNode None = Unit {0}
 
 -- What is found from the point on are these nodes, and what is found from two other points on. Both can be tried, there is less behind them, and
 -- the one below is a level deeper.
@@ -131,16 +160,28 @@ pub record Splits (fq fr : Bool) (ws question : List ℕ) (p : Point) (nodes : L
   pub below_ready : Ready fq fr ws question below
   pub beside_ready : Ready fq fr ws question beside
 
+-- Two ways stand for what is found from the point on.
+pub record Leaves (fq fr : Bool) (ws question : List ℕ) (p : Point) (nodes : List ℕ) (below beside : Option Way) : Type 0 where
+  pub splits : Splits fq fr ws question p nodes (point_of below) (point_of beside)
+  pub below_node : HasNode below
+  pub beside_node : HasNode beside
+
+-- The way to a sibling.
+abbrev pub way_beside : Point → Option ℕ → Option Way
+way_beside p (Some link) = Some (record { link = link; skip = p.skip; place = p.place })
+way_beside p None = None
+
+-- A try leaves them at the node's first child and at its sibling.
 abbrev pub Left : Bool → Bool → (ws question : List ℕ) → Point → List ℕ → Ways → Type 0
-Left fq fr ws question p nodes r = Splits fq fr ws question p nodes (below_of r) (beside_of p r)
+Left fq fr ws question p nodes r = Leaves fq fr ws question p nodes r.below (way_beside p r.beside)
 
 -- A node is passed: its arguments are to be skipped, and so many subterms more.
-pub record PassesNode (ws : List ℕ) (link left place : ℕ) (r : Ways) : Type 0 where
-  pub beside : r.beside ≡ next_of (get_or ws (links_at + link) 0)
-  pub down : r.down ≡ first_of (get_or ws (links_at + link) 0)
-  pub skip : r.skip ≡ left + arity (blank_of (cell_of (get_or ws (links_at + link) 0)))
-  pub place_is : r.place ≡ place
-  pub few : r.skip ≤ left + 7
+pub record PassesNode (ws : List ℕ) (p : Way) (left place : ℕ) (r : Ways) : Type 0 where
+  pub skip : ℕ
+  pub skip_is : skip ≡ left + arity (blank_of (cell_of (get_or ws (links_at + p.link) 0)))
+  pub few : skip ≤ left + 7
+  pub beside : r.beside ≡ linked (next_of (get_or ws (links_at + p.link) 0))
+  pub below : AtNode (record { link = first_of (get_or ws (links_at + p.link) 0); skip = skip; place = place }) r.below
 
 -- A point is tried: some nodes are marked, and it leaves the rest.
 pub record Tried (fq fr : Bool) (ws question marks marks' : List ℕ) (p : Point) (r : Ways) : Type 0 where
@@ -148,23 +189,10 @@ pub record Tried (fq fr : Bool) (ws question marks marks' : List ℕ) (p : Point
   pub marked : Marked ws marks marks' nodes
   pub left : Left fq fr ws question p nodes r
 
--- A point with these numbers can stand on the list.
-abbrev pub Small : ℕ → ℕ → ℕ → Type 0
-Small link skip place = (link ≤ last_link) × ((skip ≤ 231) × (place ≤ 32))
-
--- Three points stand on it: the one that waits, and those that a try leaves.
-pub record Parted (link skip place left at : ℕ) (t : Ways) (depth : ℕ) (r : Points) : Type 0 where
-  pub waits_is : r.waits ≡ record { link = link; skip = skip; place = place }
-  pub beside_is : r.beside ≡ record { link = t.beside; skip = left; place = at }
-  pub below_is : r.below ≡ record { link = t.down; skip = t.skip; place = t.place }
-  pub depth_is : r.depth ≡ depth + 2
-
--- The last of so many points can be tried.
-pub record Steady (fq fr : Bool) (ws question marks : List ℕ) (p : Point) (depth : ℕ) : Type 0 where
+-- A point that can be tried, and numbers that can be marked.
+pub record Steady (fq fr : Bool) (ws question marks : List ℕ) (p : Point) : Type 0 where
   pub ready : Ready fq fr ws question p
   pub map : NumberSet marks
-  pub some : 0 < depth
-  pub deep : depth ≤ 34
 
 -- What is found from the point on are these nodes, and what is found from three other points on. All can be tried, there is less behind them, and
 -- each is a level deeper than the one before.
@@ -179,14 +207,46 @@ pub record Parts (fq fr : Bool) (ws question : List ℕ) (p : Point) (nodes : Li
   pub waits_ready : Ready fq fr ws question waits
 
 -- After a turn all that is found from the point on is marked, and it goes; or some, and three points stand for the rest.
-pub data Goes (fq fr : Bool) (ws question : List ℕ) (p : Point) (nodes : List ℕ) (depth : ℕ) (r : Points) : Type 0 where
-  gone : hits_at fq fr ws question p ≡ nodes → r.depth ≡ depth - 1 → Goes fq fr ws question p nodes depth r
-  parts : Parts fq fr ws question p nodes r.below r.beside r.waits → r.depth ≡ depth + 2 → Goes fq fr ws question p nodes depth r
+abbrev pub Goes : Bool → Bool → (ws question : List ℕ) → Point → List ℕ → Option Rest → Type 0
+Goes fq fr ws question p nodes None = hits_at fq fr ws question p ≡ nodes
+Goes fq fr ws question p nodes (Some r) = Parts fq fr ws question p nodes (point r.below) (point r.beside) (point r.waits) × (Small r.waits × (Small r.beside × Small r.below))
 
-pub record Went (fq fr : Bool) (ws question marks marks' : List ℕ) (p : Point) (depth : ℕ) (r : Points) : Type 0 where
+pub record Went (fq fr : Bool) (ws question marks marks' : List ℕ) (p : Point) (r : Option Rest) : Type 0 where
   pub nodes : List ℕ
   pub marked : Marked ws marks marks' nodes
-  pub goes : Goes fq fr ws question p nodes depth r
+  pub goes : Goes fq fr ws question p nodes r
+
+-- The same for a question as the code holds it.
+abbrev pub ReadyFor : Question → Way → Type 0
+ReadyFor a w = Ready a.fills_question a.fills_rule a.m.now a.cells.now (point w)
+
+abbrev pub LeftFor : Question → Way → List ℕ → Ways → Type 0
+LeftFor a w nodes r = Left a.fills_question a.fills_rule a.m.now a.cells.now (point w) nodes r
+
+abbrev pub TriedFor : Question → (marks marks' : List ℕ) → Way → Ways → Type 0
+TriedFor a marks marks' w r = Tried a.fills_question a.fills_rule a.m.now a.cells.now marks marks' (point w) r
+
+abbrev pub SteadyFor : Question → (marks : List ℕ) → Way → Type 0
+SteadyFor a marks w = Steady a.fills_question a.fills_rule a.m.now a.cells.now marks (point w)
+
+abbrev pub WentFor : Question → (marks marks' : List ℕ) → Way → Option Rest → Type 0
+WentFor a marks marks' w r = Went a.fills_question a.fills_rule a.m.now a.cells.now marks marks' (point w) r
+
+-- Of so many points the last is taken, and one less stands; or none stands.
+abbrev pub Taken : List Point → (depth depth' : ℕ) → Option Way → Type 0
+Taken list depth depth' None = (depth ≡ 0) × (depth' ≡ 0)
+Taken list depth depth' (Some w) = (depth ≡ depth' + 1) × (point w ≡ get_or list depth' (record { link = 0; skip = 0; place = 0 }))
+
+-- The last point of a list is taken, if one stands there.
+pub record Pops (before after : Points) (w : Option Way) : Type 0 where
+  pub same : after.list ≡ before.list
+  pub taken : Taken before.list.now before.depth after.depth w
+
+-- A point stands behind the others.
+pub record Pushes (before after : Points) (w : Way) : Type 0 where
+  pub same : after.list.ghost_name ≡ before.list.ghost_name
+  pub list : after.list.now ≡ slice_set before.list.now before.depth (point w)
+  pub depth : after.depth ≡ before.depth + 1
 
 -- The point that the search begins with: the tree's first node, and the machine before all cells.
 pub record IsRoot (ws : List ℕ) (p : Point) : Type 0 where

@@ -1,4 +1,5 @@
-// The marked numbers, counted and written.
+// The marked numbers, counted and written. Marks are lent as words, as docs/CONTRACTS.md names `count` and `list`, so that they are a set
+// is asked of each caller.
 ghost use Rattle.std.specs.Prelude.{◌≡◌, ◌≤◌, length};
 ghost use Rattle.layout.specs.Layout.{rule_numbers};
 ghost use Rattle.book.specs.Rules.{Rules};
@@ -11,13 +12,7 @@ pub fn count(marks: &[u64]) -> usize
     requires { NumberSet marks.now }
     ensures { result ≡ length (numbers (has marks.now) rule_numbers) }
 {
-    let mut n: usize = 0;
-    let mut k = bits::numbers::next(marks, 0);
-    while k < layout::RULE_NUMBERS {
-        n += 1;
-        k = bits::numbers::next(marks, k + 1);
-    }
-    n
+    bits::numbers::members(marks).count()
 }
 
 // Writes the marked numbers, ascending, from the front of `out`, and answers how many they are. Ascending is the order of a list,
@@ -27,12 +22,11 @@ pub fn list(marks: &[u64], out: &mut [u16]) -> usize
     requires rule_numbers_in_bounds { length (numbers (has marks.now) rule_numbers) ≤ length out.old }
     ensures { (rules : Rules) → Lists rules marks.now out.old out.new result }
 {
+    // Counted by hand, since how many they are is the answer: `enumerate` leaves no count behind its loop.
     let mut n: usize = 0;
-    let mut s = bits::numbers::first(marks, 0);
-    while s.at < layout::RULE_NUMBERS {
-        out[n] = s.at as u16;
+    for number in bits::numbers::members(marks) {
+        out[n] = number as u16;
         n += 1;
-        s = bits::numbers::after(marks, s.at, s.rest);
     }
     n
 }

@@ -2,74 +2,83 @@
 ghost use Rattle.std.specs.Prelude.{◌≡◌, ◌<◌, ◌≤◌, [], length};
 ghost use Rattle.layout.specs.Layout.{last_link, book_words};
 ghost use Rattle.bits.specs.Numbers.{NumberSet};
-ghost use Rattle.questions.specs.Promises.{Decisive, LastWanted, PassesNode, RulesBeside, Marked, siblings, Ready, Left, Tried};
+ghost use Rattle.questions.specs.Promises.{Decisive, Wanted, LastWanted, linked, AtNode, PassesNode};
+ghost use Rattle.questions.specs.Promises.{RulesBeside, Marked, siblings, ReadyFor, LeftFor, TriedFor};
 
-use crate::seeking::{MARK, sibling};
+use crate::asking::Question;
+use crate::seeking::sibling;
 use book::Book;
+use links::MARK;
 use term::machine;
 
-// What is left to be tried after a node: its sibling, where the machine stands as it did before; and its first child, with the
-// machine's next spot. A link is 0 where there is nothing.
-#[derive(Drop)]
-pub struct Ways {
-    pub beside: usize,
-    pub down: usize,
+// A point in hand, at the width of the machine's registers. A link of 0 is none, as in the memory and on the list: `HasNode` reads it so.
+#[derive(Clone, Copy)]
+pub struct Way {
+    pub link: usize,
     pub skip: usize,
     pub place: usize,
 }
 
+// What is left to be tried after a node: the link of its sibling, where the machine stands as it did before; and the way to its
+// first child, with the machine's next spot.
+#[derive(Drop)]
+pub struct Ways {
+    pub beside: Option<usize>,
+    pub below: Option<Way>,
+}
+
 // Nothing is left.
-fn nowhere() -> Ways
-    ensures { result ≡ record { beside = 0; down = 0; skip = 0; place = 0 } }
+const NOWHERE: Ways = Ways {
+    beside: None,
+    below: None,
+};
+
+// A link as the memory has it: 0 where there is none. `at_node` asks the same of a point in hand: what the two share is one test.
+fn linked(link: u64) -> Option<usize>
+    ensures { result ≡ linked link }
 {
-    Ways {
-        beside: 0,
-        down: 0,
-        skip: 0,
-        place: 0,
+    if link == 0 {
+        return None;
     }
+    Some(link as usize)
 }
 
-// The one symbol with which the machine can go on, the mark where it is no symbol, or 65,536 where it may be any, since the
-// question's cell may be filled.
-fn wanted(fills_question: bool, question: &[u16], place: usize) -> u64
-    requires { place < length question.now }
-    ensures { Decisive fills_question question.now place result }
+// The way, if there is a node at its link.
+pub fn at_node(w: Way) -> Option<Way>
+    ensures { AtNode w result }
 {
-    let c = question[place];
-    if c < Book::MARK {
-        return c as u64;
+    if w.link == 0 {
+        return None;
     }
-    if fills_question {
-        return 65536;
-    }
-    MARK
+    Some(w)
 }
 
-// The last symbol to look at. Siblings ascend, so where a rule's blank may not be filled nothing is to be found behind the symbol
+// The last cell to look at. Siblings ascend, so where a rule's blank may not be filled nothing is to be found behind the symbol
 // wanted; else the blank is the last of them.
 fn last_wanted(fills_rule: bool, cell: u64) -> u64
     ensures { LastWanted fills_rule cell result }
 {
     if fills_rule {
-        return 65536;
+        return u64::from(u16::MAX);
     }
     cell
 }
 
 // A node that is passed, whatever its cell is: below it its arguments are to be skipped, and what is left of the subterms.
-fn pass_node(m: &[u64], link: usize, left: usize, place: usize) -> Ways
-    requires m_len { (length m.now ≡ book_words) × (link ≤ last_link) }
+fn pass_node(m: &[u64], p: Way, left: usize, place: usize) -> Ways
+    requires m_len { (length m.now ≡ book_words) × (p.link ≤ last_link) }
     requires left_bound { left ≤ 231 }
-    ensures { PassesNode m.now link left place result }
+    ensures { PassesNode m.now p left place result }
 {
-    let w = m[layout::LINKS_AT + link];
-    let skip = left + term::arity(links::cell_of(w) as u16);
-    Ways {
-        beside: links::next_of(w) as usize,
-        down: links::first_of(w) as usize,
-        skip,
+    let w = m[layout::LINKS_AT + p.link];
+    let below = Way {
+        link: links::first_of(w) as usize,
+        skip: left + term::arity(links::cell_of(w) as u16),
         place,
+    };
+    Ways {
+        beside: linked(links::next_of(w)),
+        below: at_node(below),
     }
 }
 
@@ -79,6 +88,7 @@ fn mark_rules(m: &[u64], marks: &mut [u64], link: usize)
     requires number_set { NumberSet marks.old }
     ensures { Marked m.now marks.old marks.new (siblings m.now link) }
 {
+    // No index: the walk follows links, to the memory's 0.
     let mut x = link;
     while x != 0 {
         let w = m[layout::LINKS_AT + x];
@@ -87,73 +97,76 @@ fn mark_rules(m: &[u64], marks: &mut [u64], link: usize)
     }
 }
 
-// The machine's step at the first node from the link on at which it may go on, where one cell is wanted.
-fn meet_node(
-    m: &[u64],
-    fills_question: bool,
-    fills_rule: bool,
-    question: &[u16],
-    link: usize,
-    place: usize,
-    cell: u64,
-) -> Ways
-    requires ready { Ready fills_question fills_rule m.now question.now (record { link = link; skip = 0; place = place }) }
-    requires place_in_bounds { place < length question.now }
-    requires decisive { Decisive fills_question question.now place cell }
-    requires fact { (link ≡ 0 → ⊥) × (cell ≡ 65536 → ⊥) }
-    ensures { Left fills_question fills_rule m.now question.now (record { link = link; skip = 0; place = place }) [] result }
-{
-    let x = sibling(m, cell, last_wanted(fills_rule, cell), link);
-    if x == 0 {
-        return nowhere();
+impl<'a> Question<'a> {
+    // The one symbol with which the machine can go on at a place, or the mark where it is no symbol; none where it may be any,
+    // since the question's cell may be filled.
+    fn wanted(&self, place: usize) -> Option<u64>
+        requires { place < length self.now.cells.now }
+        ensures { Wanted self.now.fills_question self.now.cells.now place result }
+    {
+        let c = self.cells[place];
+        if c < Book::MARK {
+            return Some(u64::from(c));
+        }
+        if self.fills_question {
+            return None;
+        }
+        Some(MARK)
     }
-    let w = m[layout::LINKS_AT + x];
-    let c = links::cell_of(w) as u16;
-    let s = machine::meet(fills_question, fills_rule, question, c, place);
-    let beside = links::next_of(w) as usize;
-    if s.alive {
-        return Ways {
-            beside,
-            down: links::first_of(w) as usize,
-            skip: s.skip,
-            place: s.place,
-        };
-    }
-    Ways {
-        beside,
-        down: 0,
-        skip: 0,
-        place: 0,
-    }
-}
 
-// Tries a point. Where there are subterms to skip any node does, and where the question's cell may be filled; at the question's
-// end all siblings are rules that answer; else one cell is wanted.
-pub fn try_point(
-    m: &[u64],
-    fills_question: bool,
-    fills_rule: bool,
-    question: &[u16],
-    marks: &mut [u64],
-    link: usize,
-    skip: usize,
-    place: usize,
-) -> Ways
-    requires ready { Ready fills_question fills_rule m.now question.now (record { link = link; skip = skip; place = place }) }
-    requires fact { link ≡ 0 → ⊥ }
-    requires number_set { NumberSet marks.old }
-    ensures { Tried fills_question fills_rule m.now question.now marks.old marks.new (record { link = link; skip = skip; place = place }) result }
-{
-    if 0 < skip {
-        return pass_node(m, link, skip - 1, place);
+    // The machine's step at the first node from the point on at which it may go on, where one cell is wanted.
+    fn meet_node(&self, p: Way, cell: u64) -> Ways
+        requires ready { ReadyFor self.now p }
+        requires skip { p.skip ≡ 0 }
+        requires place_in_bounds { p.place < length self.now.cells.now }
+        requires decisive { Decisive self.now.fills_question self.now.cells.now p.place cell }
+        requires node { p.link ≡ 0 → ⊥ }
+        ensures { LeftFor self.now p [] result }
+    {
+        let m = self.m;
+        let last = last_wanted(self.fills_rule, cell);
+        let Some(x) = sibling(m, cell, last, p.link) else {
+            return NOWHERE;
+        };
+        let w = m[layout::LINKS_AT + x];
+        let c = links::cell_of(w) as u16;
+        let beside = linked(links::next_of(w));
+        let met = machine::meet(self.fills_question, self.fills_rule, self.cells, c, p.place);
+        match met {
+            Some(spot) => Ways {
+                beside,
+                below: at_node(Way {
+                    link: links::first_of(w) as usize,
+                    skip: spot.skip,
+                    place: spot.place,
+                }),
+            },
+            None => Ways {
+                beside,
+                below: None,
+            },
+        }
     }
-    if question.len() <= place {
-        mark_rules(m, marks, link);
-        return nowhere();
+
+    // Tries a point. Where there are subterms to skip any node does, and where the question's cell may be filled; at the question's
+    // end all siblings are rules that answer; else one cell is wanted.
+    pub fn try_point(&self, marks: &mut [u64], p: Way) -> Ways
+        requires ready { ReadyFor self.now p }
+        requires node { p.link ≡ 0 → ⊥ }
+        requires number_set { NumberSet marks.old }
+        ensures { TriedFor self.now marks.old marks.new p result }
+    {
+        let m = self.m;
+        if 0 < p.skip {
+            return pass_node(m, p, p.skip - 1, p.place);
+        }
+        if self.cells.len() <= p.place {
+            mark_rules(m, marks, p.link);
+            return NOWHERE;
+        }
+        match self.wanted(p.place) {
+            Some(cell) => self.meet_node(p, cell),
+            None => pass_node(m, p, 0, p.place + 1),
+        }
     }
-    let cell = wanted(fills_question, question, place);
-    if cell == 65536 {
-        return pass_node(m, link, 0, place + 1);
-    }
-    meet_node(m, fills_question, fills_rule, question, link, place, cell)
 }

@@ -1,16 +1,17 @@
--- A word is zero from a field on exactly where the shift leaves nothing, and a record is zero behind its term word by word
+-- A word is zero from a field on exactly where the shift leaves nothing, and a record is zero behind its term word by word.
 use mathlib.Core.Path.{◌≡◌, sym, ap, ◌∙◌}
 use mathlib.Core.List.{List}
-use mathlib.Core.Bool.{Bool}
+use mathlib.Core.Bool.{Bool, true, false}
 use Prim.Native.Nat.{ℕ, zero, suc, ◌+◌, ◌-◌, ◌*◌, ◌/◌, ◌%◌, ◌^◌, ◌≤◌, ◌<◌}
 use native.Mathlib.Nat.{mul-mod_left, mod-add-div, zero-add, mul_comm, mul_assoc, mul-div_cancel, mul-div-mul_right}
 use native.Mathlib.Decide.{dec_lt}
 use native.Mathlib.Omega.{arith}
-use borrow.Author.Tests.{eqb-true, eqb-false}
-use lib.Dec.{eqb, lit<}
-use lib.ListN.{length, get_or, get_or-eq_default}
-use Rattle.deciding.specs.Deciding.{Decides}
-use Rattle.layout.specs.Layout.{term_words}
+use lib.Dec.{lit<}
+use lib.ListN.{length, get_or, drop, get_or-eq_default, length-drop}
+use Rattle.std.specs.Bool.{MatchBool}
+use Rattle.std.specs.List.{AllWithin, HoldsAt}
+use Rattle.std.proofs.lemmas.List.{get_or-drop}
+use Rattle.deciding.specs.Deciding.{Decides, decided, denied}
 use Rattle.bits.specs.Packed.{fields}
 use Rattle.bits.specs.Laws.{length_unpack, field_at}
 use Rattle.book.specs.Filling.{Zeros}
@@ -110,66 +111,41 @@ word_left ws q r h b f = tail_left (get_or ws q 0) r h b (λ t l. one t l)
         ap (λ (x : ℕ). get_or ws q 0 / 2 ^ (x * 16) % 2 ^ 16) (sym e) ∙ sym (field_at ws q (q * 4 + (3 - t)) (omega arith) (omega arith))
         ∙ f (q * 4 + (3 - t)) (omega arith) (omega arith)
 
--- the search has come to the word i
-pub record ClearTo (ws : List ℕ) (from i : ℕ) : Type 0 where
-  pub after : from / 4 < i
-  pub zeros : (k : ℕ) → from ≤ k → k < i * 4 → get_or (fields ws) k 0 ≡ 0
-
-pub clear_first : (ws : List ℕ) (from : ℕ) → (get_or ws (from / 4) 0 * 2 ^ (from % 4 * 16)) % 2 ^ 64 ≡ 0 → ClearTo ws from (from / 4 + 1)
-clear_first ws from e = record { after = omega arith; zeros = λ k a b. word_clear ws (from / 4) (from % 4) e k (omega arith) (omega arith) }
-
-pub clear_more : (ws : List ℕ) (from i : ℕ) → ClearTo ws from i → get_or ws i 0 ≡ 0 → ClearTo ws from (i + 1)
-clear_more ws from i c e = record { after = let a = c.after in omega arith; zeros = λ k a b. go k a b (dec_lt k (i * 4)) }
-  where
-    none : (get_or ws i 0 * 2 ^ (0 * 16)) % 2 ^ 64 ≡ 0
-    none = ap (λ (w : ℕ). (w * 2 ^ (0 * 16)) % 2 ^ 64) e
-
-    go : (k : ℕ) → from ≤ k → k < (i + 1) * 4 → Dec (k < i * 4) → get_or (fields ws) k 0 ≡ 0
-    go k a b (yes l) = c.zeros k a l
-    go k a b (no l) = word_clear ws i 0 none k (omega arith) (omega arith)
-
 past_end : (ws : List ℕ) (k : ℕ) → length ws * 4 ≤ k → get_or (fields ws) k 0 ≡ 0
 past_end ws k h = get_or-eq_default (fields ws) 0 (omega (arith, length_unpack 16 4 ws))
 
-pub clear_end : (ws : List ℕ) (from i : ℕ) → ClearTo ws from i → length ws ≤ i → Zeros (fields ws) from
-clear_end ws from i c h k a = go (dec_lt k (i * 4))
-  where
-    go : Dec (k < i * 4) → get_or (fields ws) k 0 ≡ 0
-    go (yes l) = c.zeros k a l
-    go (no l) = past_end ws k (omega arith)
+unshifted : (w : ℕ) → w < 2 ^ 64 → (w * 2 ^ (0 * 16)) % 2 ^ 64 ≡ 0 → w ≡ 0
+unshifted w b e = omega arith
 
-pub clear_past : (ws : List ℕ) (from : ℕ) → length ws ≤ from / 4 → Zeros (fields ws) from
-clear_past ws from h k a = past_end ws k (omega arith)
+module _ (ws : List ℕ) (from : ℕ) where
+  pub clear_past : length ws ≤ from / 4 → Zeros (fields ws) from
+  clear_past h k a = past_end ws k (omega arith)
 
-pub not_first : (ws : List ℕ) (from : ℕ) → get_or ws (from / 4) 0 < 2 ^ 64 → ¬ ((get_or ws (from / 4) 0 * 2 ^ (from % 4 * 16)) % 2 ^ 64 ≡ 0) → ¬ (Zeros (fields ws) from)
-not_first ws from b n z = n (word_left ws (from / 4) (from % 4) (omega arith) b (λ k a l. z k (omega arith)))
+  -- the word of `from` is not zero from there on
+  pub first_decides : get_or ws (from / 4) 0 < 2 ^ 64 → ¬ ((get_or ws (from / 4) 0 * 2 ^ (from % 4 * 16)) % 2 ^ 64 ≡ 0) → ¬ (Zeros (fields ws) from)
+  first_decides b n z = n (word_left ws (from / 4) (from % 4) (omega arith) b (λ k a l. z k (omega arith)))
 
-pub not_here : (ws : List ℕ) (from i : ℕ) → get_or ws i 0 < 2 ^ 64 → ClearTo ws from i → ¬ (get_or ws i 0 ≡ 0) → ¬ (Zeros (fields ws) from)
-not_here ws from i b c n z = n (same (get_or ws i 0) b (word_left ws i 0 (omega arith) b (λ k a l. z k (let q = c.after in omega arith))))
-  where
-    same : (w : ℕ) → w < 2 ^ 64 → (w * 2 ^ (0 * 16)) % 2 ^ 64 ≡ 0 → w ≡ 0
-    same w b e = omega arith
+  -- it is, so the words behind it decide
+  pub rest_decides : (get_or ws (from / 4) 0 * 2 ^ (from % 4 * 16)) % 2 ^ 64 ≡ 0 → ((k : ℕ) → get_or ws k 0 < 2 ^ 64) → (r : Bool)
+      → MatchBool r (AllWithin (λ w. w ≡ 0) (drop (from / 4 + 1) ws) 0 (length (drop (from / 4 + 1) ws)))
+      ((k : ℕ) × (k < length (drop (from / 4 + 1) ws)) × HoldsAt (λ w. ¬ (w ≡ 0)) (drop (from / 4 + 1) ws) k)
+      → Decides (Zeros (fields ws) from) r
+  rest_decides e fits true h = decided zeros
+    where
+      behind : (i : ℕ) → from / 4 < i → i < length ws → get_or ws i 0 ≡ 0
+      behind i l m =
+          let d : from / 4 + 1 + (i - (from / 4 + 1)) ≡ i = omega arith in
+          ap (λ (j : ℕ). get_or ws j 0) (sym d) ∙ sym (get_or-drop (from / 4 + 1) ws (i - (from / 4 + 1)) 0)
+          ∙ h (i - (from / 4 + 1)) 0 (omega arith) (omega (arith, length-drop (from / 4 + 1) ws))
 
--- from the second word on
-pub second_clear : (ws : List ℕ) → get_or ws 1 0 ≡ 0 → ClearTo ws 4 2
-second_clear ws e = clear_first ws 4 (ap (λ (w : ℕ). (w * 2 ^ (0 * 16)) % 2 ^ 64) e)
-
-pub not_second : (ws : List ℕ) → get_or ws 1 0 < 2 ^ 64 → ¬ (get_or ws 1 0 ≡ 0) → ¬ (Zeros (fields ws) 4)
-not_second ws b n = not_first ws 4 b (λ e. n (same (get_or ws 1 0) b e))
-  where
-    same : (w : ℕ) → w < 2 ^ 64 → (w * 2 ^ (0 * 16)) % 2 ^ 64 ≡ 0 → w ≡ 0
-    same w b e = omega arith
-
--- the last word decides
-pub last_decides : (ws : List ℕ) → length ws ≡ term_words → get_or ws 7 0 < 2 ^ 64 → ClearTo ws 4 7 → Decides (Zeros (fields ws) 4) (eqb (get_or ws 7 0) 0)
-last_decides ws l b c =
-    record { yes = λ e. clear_end ws 4 8 (clear_more ws 4 7 c (eqb-true (get_or ws 7 0) 0 e)) (omega arith); no = λ e. not_here ws 4 7 b c (eqb-false (get_or ws 7 0) 0 e) }
-
--- a first word that is zero from `from` on, and the words behind it
-pub first_and_rest : (ws : List ℕ) (from : ℕ) → from < 4 → (get_or ws (from / 4) 0 * 2 ^ (from % 4 * 16)) % 2 ^ 64 ≡ 0 → (b : Bool)
-    → Decides (Zeros (fields ws) 4) b → Decides (Zeros (fields ws) from) b
-first_and_rest ws from h e b z = record { yes = λ q k a. go k a (z.yes q) (dec_lt k 4); no = λ q y. z.no q (λ k a. y k (omega arith)) }
-  where
-    go : (k : ℕ) → from ≤ k → Zeros (fields ws) 4 → Dec (k < 4) → get_or (fields ws) k 0 ≡ 0
-    go k a y (yes l) = (clear_first ws from e).zeros k a (omega arith)
-    go k a y (no l) = y k (omega arith)
+      zeros : Zeros (fields ws) from
+      zeros k a = go (dec_lt k (from / 4 * 4 + 4)) (dec_lt (k / 4) (length ws))
+        where
+          go : Dec (k < from / 4 * 4 + 4) → Dec (k / 4 < length ws) → get_or (fields ws) k 0 ≡ 0
+          go (yes l) d = word_clear ws (from / 4) (from % 4) e k (omega arith) l
+          go (no l) (yes m) = word_clear ws (k / 4) 0 (ap (λ (w : ℕ). (w * 2 ^ (0 * 16)) % 2 ^ 64) (behind (k / 4) (omega arith) m)) k (omega arith) (omega arith)
+          go (no l) (no m) = past_end ws k (omega arith)
+  rest_decides e fits false h = denied (λ z. h.2 0
+      (get_or-drop (from / 4 + 1) ws h.0 0
+      ∙ unshifted (get_or ws (from / 4 + 1 + h.0) 0) (fits (from / 4 + 1 + h.0))
+      (word_left ws (from / 4 + 1 + h.0) 0 (omega arith) (fits (from / 4 + 1 + h.0)) (λ k a l. z k (omega arith)))))

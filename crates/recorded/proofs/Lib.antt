@@ -1,5 +1,4 @@
 -- Why a record is found right.
-pub mod Checking
 pub mod Behind
 pub mod Ruling
 pub mod Plainly

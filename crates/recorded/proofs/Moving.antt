@@ -9,14 +9,14 @@ use native.Mathlib.Omega.{arith}
 use native.Mathlib.Decide.{ℕ_discrete, dec_lt}
 use lib.Bits.{bit_or, or_add_and, and_le_l, and_le_r}
 use lib.ListN.{length, get_or, get_or-eq_default}
-use Rattle.deciding.specs.Deciding.{Decides, true_not_false}
+use Rattle.deciding.specs.Deciding.{true_not_false}
 use Rattle.layout.specs.Layout.{term_words}
 use Rattle.bits.specs.Packed.{fields}
 use Rattle.bits.specs.Laws.{get_unpack, field_at}
 use Rattle.recorded.proofs.Plainly.{plain_term}
 use Rattle.recorded.specs.Way.{blanks, numbered, word_of, Kept, none, more, Low}
 use Rattle.recorded.specs.WayCells.{blanks_low, kept_word, numbered_low}
-use Rattle.recorded.specs.Promises.{TermOf, Plain, PlainOf, TermDecided}
+use Rattle.recorded.specs.Promises.{Plain, PlainOf, TermDecided}
 
 -- ---- the words behind the second
 
@@ -136,7 +136,7 @@ empty_at ws k e =
     get_unpack 16 4 ws k (3 - k % 4) (omega arith) ∙ ap (λ (z : ℕ). z / 2 ^ ((3 - k % 4) * 16) % 2 ^ 16) e
     ∙ ap (λ (z : ℕ). z % 2 ^ 16) (zero-div (2 ^ ((3 - k % 4) * 16)))
 
-module _ (words way ks row : List ℕ) (depth : ℕ) (kept : Kept way ks row) (low : Low row) (deep : length row ≡ depth) (few : depth ≤ 8) where
+module _ (words : List ℕ) {way ks row : List ℕ} {depth : ℕ} (kept : Kept way ks row) (low : Low row) (deep : length row ≡ depth) (few : depth ≤ 8) where
   -- the word q has the last cells
   last_same : (q j : ℕ) → get_or words q 0 ≡ last_of way depth → q * 4 ≤ j → j < depth → depth ≤ q * 4 + 4 → get_or (fields words) j 0 ≡ get_or way (j + 1) 0 % 65536
   last_same q j e a l b =
@@ -186,13 +186,10 @@ module _ (words way ks row : List ℕ) (depth : ℕ) (kept : Kept way ks row) (l
 
 -- ---- the record is decided
 
-module _ (words way : List ℕ) (depth : ℕ) where
-  pub plainly : length words ≡ term_words → PlainOf words way depth → TermDecided words way depth true
-  plainly eight p = record {
+module _ {words way : List ℕ} {depth : ℕ} where
+  pub plainly : length words ≡ term_words → {r : Bool} → (r ≡ true → PlainOf words way depth) → r ≡ true → TermDecided words way depth r
+  plainly eight p e = record {
     yes = λ q ks row kept low deep whole. plain_term words way ks row depth eight kept low deep whole
-        (p ks row kept low deep);
-    no = λ q. absurd (true_not_false refl q);
+        (p q ks row kept low deep);
+    no = λ q. absurd (true_not_false e q);
   }
-
-  pub by_cells : (r : Bool) → Decides (TermOf words way depth) r → TermDecided words way depth r
-  by_cells r d = record { yes = λ q ks row kept low deep whole. d.yes q; no = d.no }

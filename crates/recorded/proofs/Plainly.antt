@@ -1,4 +1,5 @@
 -- A record that is the way's most general term is a whole term with the way's blanks.
+use Rattle.std.specs.Prelude.{Ok}
 use mathlib.Core.Path.{◌≡◌, refl, sym, ap, ◌∙◌}
 use mathlib.Core.List.Memᴰ
 use mathlib.Core.List.{List, [], ◌∷◌, ◌++◌, reverse, reverse-cons}
@@ -11,7 +12,6 @@ use Rattle.layout.specs.Layout.{term_words}
 use Rattle.bits.specs.Packed.{fields}
 use Rattle.bits.specs.Laws.{length_unpack}
 use Rattle.term.specs.Reading.{read_term}
-use Rattle.term.specs.declared.reading.Reading.TheVariants.{Whole}
 use Rattle.book.specs.Memory.{blank_number}
 use Rattle.recorded.specs.Way.{wants, blanks, numbered, word_of, Kept, none, more, Low}
 use Rattle.recorded.specs.WayCells.{blanks_low, numbered_low, last_part}
@@ -70,6 +70,6 @@ plain_term words way ks row depth eight k h d z p = record { whole = whole; clea
         (λ j l. let q : j < depth = omega (arith, length-take depth (fields words)) in
         get_or-take depth (fields words) j 0 q ∙ p.same j q ∙ way_cell k h (let s = p.short in omega arith) j (omega arith))
 
-    whole : read_term (fields words) ≡ Whole depth
+    whole : read_term (fields words) ≡ Ok depth
     whole = ap read_term (sym (take-append-drop depth (fields words)) ∙ ap (λ (x : List ℕ). x ++ drop depth (fields words)) begins)
-        ∙ general_whole row (drop depth (fields words)) h (kept_opened k) (let s = p.short in omega arith) z ∙ ap Whole d
+        ∙ general_whole row (drop depth (fields words)) h (kept_opened k) (let s = p.short in omega arith) z ∙ ap Ok d

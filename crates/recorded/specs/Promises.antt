@@ -1,16 +1,15 @@
 -- What is asked of a rule's record, and what the functions promise.
-use Rattle.std.specs.Prelude.{◌≡◌, List, Bool, true, false, ℕ, ◌+◌, ◌*◌, ◌%◌, ◌≤◌, ◌<◌, length, get_or, take, drop}
+use Rattle.std.specs.Prelude.{◌≡◌, List, Bool, true, false, ℕ, ◌+◌, ◌*◌, ◌%◌, ◌≤◌, ◌<◌, length, get_or, take, drop, Ok}
 use Rattle.layout.specs.Layout.{rule_numbers, term_words, record_words, terms_at}
 use Rattle.bits.specs.Packed.{fields}
 use Rattle.term.specs.Reading.{read_term}
-use Rattle.term.specs.declared.reading.Reading.TheVariants.{Whole}
 use Rattle.book.specs.Filling.{Zeros}
 use Rattle.book.specs.Memory.{view, number, blank_number}
 use Rattle.recorded.specs.Way.{wants, Kept, Low}
 
 -- The words of a record are those of a whole term of this length, and zeros, with the blanks of the way
 pub record TermOf (words way : List ℕ) (depth : ℕ) : Type 0 where
-  pub whole : read_term (fields words) ≡ Whole depth
+  pub whole : read_term (fields words) ≡ Ok depth
   pub clean : Zeros (fields words) depth
   pub same : (j : ℕ) → j < depth → blank_number (get_or (fields words) j 0) ≡ blank_number (get_or way (j + 1) 0 % 65536)
 

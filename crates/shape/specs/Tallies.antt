@@ -11,6 +11,7 @@ use Rattle.std.proofs.Math.Decide.{ℕ_discrete}
 use Rattle.std.proofs.Math.Nat.{zero-div}
 use Rattle.std.proofs.Math.ListN.{length}
 use Rattle.deciding.specs.Deciding.{true_not_false}
+use Rattle.std.proofs.lemmas.List.Sums.{sum_by-cons}
 use Rattle.bits.specs.Packed.{bits, sum}
 use Rattle.bits.specs.Laws.{length_bits, bit_low, get_bit}
 use Rattle.term.specs.Beginnings.{put_if, Distinct}
@@ -146,10 +147,10 @@ same_bits a b l e =
     (λ k h. sym (low_bit (get_or (bits a) k 0) (bit_low a k)) ∙ ap bit (e k) ∙ low_bit (get_or (bits b) k 0) (bit_low b k))
 
 sum_tally : (l : List ℕ) → ((n : ℕ) → get_or l n 0 < 2) → sum l ≡ tally (λ n. eqb (get_or l n 0) 1) (length l)
-unfolding sum tally
+unfolding tally
 sum_tally [] h = refl
 sum_tally (x ∷ l) h =
-    ap (λ (z : ℕ). x + z) (sum_tally l (λ n. h (suc n))) ∙ ap (λ (z : ℕ). z + tally (λ n. eqb (get_or l n 0) 1) (length l)) (sym (low_bit x (h 0)))
+    sum_by-cons (λ (z : ℕ). z) x l ∙ ap (λ (z : ℕ). x + z) (sum_tally l (λ n. h (suc n))) ∙ ap (λ (z : ℕ). z + tally (λ n. eqb (get_or l n 0) 1) (length l)) (sym (low_bit x (h 0)))
     ∙ sym (tally_shift (λ n. eqb (get_or (x ∷ l) n 0) 1) (length l))
 
 -- the count of the set bits of a map

@@ -1,10 +1,10 @@
 -- The eleven proved cases of Reference 13, as rows of one table that one statement covers: `eleven` of proofs/Examples.
-use Rattle.std.specs.Prelude.{◌≡◌, List, [], ◌∷◌, Bool, true, false, not, ℕ, T, eqb, length}
+use Rattle.std.specs.Prelude.{◌≡◌, List, [], ◌∷◌, Bool, true, false, not, ℕ, T, eqb, length, Result, Ok, Err}
 use Rattle.std.proofs.Common.{ap, subst, arith, eqb→eq}
 use Rattle.std.proofs.Math.Seq.{take-length}
 use Rattle.deciding.specs.Deciding.{both}
 use Rattle.term.specs.Cells.{Terms, blank_form}
-use Rattle.term.specs.Reading.{Reading, Whole, Refused, Fault, TooLong, CutShort, FieldSet, AboveFifteen, AboveCount, refusal_of, read_term, reading_refusal, reading_cells}
+use Rattle.term.specs.Reading.{Refused, Fault, TooLong, CutShort, FieldSet, AboveFifteen, AboveCount, refusal_of, read_term, reading_refusal, reading_cells}
 use Rattle.term.specs.Questions.{Mode, variants, instances, generalisations, unifiables, Answers}
 use Rattle.term.specs.Beginnings.{node_count}
 use Rattle.term.specs.Machine.{accepts}
@@ -85,9 +85,9 @@ pub halves : (p q : Bool) → T (both p q) → T p × T q
 halves true q h = (tt, h)
 halves false q h = absurd h
 
-no_refusal : (r : Reading) (n : ℕ) → reading_refusal r ≡ 0 → reading_cells r ≡ n → r ≡ Whole n
-no_refusal (Whole m) n e f = ap Whole f
-no_refusal (Refused fault place) n e f = absurd (some fault e)
+no_refusal : (r : Result ℕ Refused) (n : ℕ) → reading_refusal r ≡ 0 → reading_cells r ≡ n → r ≡ Ok n
+no_refusal (Ok m) n e f = ap Ok f
+no_refusal (Err r) n e f = absurd (some r.fault e)
   where
     some : (fault : Fault) → ¬ (refusal_of fault ≡ 0)
     some TooLong e = omega arith

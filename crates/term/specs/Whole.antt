@@ -1,9 +1,9 @@
 -- What is read as a whole term is one: its cells, and no others, decide it.
-use Rattle.std.specs.Prelude.{◌≡◌, refl, List, [], ◌∷◌, ◌++◌, map, Bool, true, false, ℕ, zero, suc, ◌+◌, ◌-◌, ◌≤◌, ltb, leb, length, take}
+use Rattle.std.specs.Prelude.{◌≡◌, refl, List, [], ◌∷◌, ◌++◌, map, Bool, true, false, ℕ, zero, suc, ◌+◌, ◌-◌, ◌≤◌, ltb, leb, length, take, Result, Ok, Err}
 use Rattle.std.proofs.Common.{sym, ap, ◌∙◌, subst, add-zero, arith, ltb-true}
 use Rattle.deciding.specs.Deciding.{pick}
 use Rattle.term.specs.Cells.{Cell, vari, symb, Row, star, arity, Proper, Terms, none, more, blanked, cell_of, term_of, blank_of, blank_form}
-use Rattle.term.specs.Reading.{Whole, Refused, Fault, Taken, Wants, Faulty, takes, go_on, read_from, read_term}
+use Rattle.term.specs.Reading.{Refused, Fault, Wants, takes, go_on, read_from, read_term}
 use Rattle.term.specs.Preorder.{recount, not_empty}
 
 -- A cell of a term and the same cell of its blank form.
@@ -31,11 +31,11 @@ proper_cell c = go (ltb c 32768) refl
     go false e = tt
 
 -- A cell that is taken calls for its arity.
-abbrev asks : Taken → ℕ → Type 0
-asks (Wants a k) n = a ≡ n
-asks (Faulty fault) n = Unit {0}
+abbrev asks : Result Wants Fault → ℕ → Type 0
+asks (Ok w) n = w.arity ≡ n
+asks (Err fault) n = Unit {0}
 
-asks_pick : (b : Bool) (s t : Taken) (n : ℕ) → (b ≡ true → asks s n) → (b ≡ false → asks t n) → asks (pick b s t) n
+asks_pick : (b : Bool) (s t : Result Wants Fault) (n : ℕ) → (b ≡ true → asks s n) → (b ≡ false → asks t n) → asks (pick b s t) n
 asks_pick true s t n h k = h refl
 asks_pick false s t n h k = k refl
 
@@ -56,17 +56,17 @@ record Read (left wanted place : ℕ) (s : List ℕ) (end : ℕ) : Type 0 where
   inside : size ≤ length s
   terms : Terms wanted (term_of (take size s))
 
-whole_inj : {a b : ℕ} → Whole a ≡ Whole b → a ≡ b
+whole_inj : {a b : ℕ} → ◌≡◌ {A = Result ℕ Refused} (Ok a) (Ok b) → a ≡ b
 whole_inj e = cc
 
-refused_whole : {fault : Fault} {a b : ℕ} → Refused fault a ≡ Whole b → ⊥
-refused_whole e = let z : ◌≡◌ {A = ℕ} 0 1 = cc in omega arith
+refused_whole : {r : Refused} {b : ℕ} → ◌≡◌ {A = Result ℕ Refused} (Err r) (Ok b) → ⊥
+refused_whole e = cc
 
-read_none : (left place end : ℕ) (s : List ℕ) → Whole place ≡ Whole end → Read left zero place s end
+read_none : (left place end : ℕ) (s : List ℕ) → ◌≡◌ {A = Result ℕ Refused} (Ok place) (Ok end) → Read left zero place s end
 read_none left place end s e =
     record { size = 0; is = sym (whole_inj e) ∙ sym (add-zero place); short = omega arith; inside = omega arith; terms = none }
 
-reads : (left wanted known place : ℕ) (s : List ℕ) (end : ℕ) → read_from left wanted known place s ≡ Whole end → Read left wanted place s end
+reads : (left wanted known place : ℕ) (s : List ℕ) (end : ℕ) → read_from left wanted known place s ≡ Ok end → Read left wanted place s end
 unfolding read_from
 reads zero zero known place s end e = read_none zero place end s e
 reads zero (suc wanted) known place s end e = absurd (refused_whole e)
@@ -75,11 +75,11 @@ reads (suc left) (suc wanted) known place [] end e = absurd (refused_whole e)
 reads (suc left) (suc wanted) known place (c ∷ s) end e =
     go (takes known c) (taken_arity known c) (λ a k. reads left (a + wanted) k (suc place) s end) e
   where
-    go : (t : Taken) → asks t (arity (cell_of c))
-        → ((a k : ℕ) → read_from left (a + wanted) k (suc place) s ≡ Whole end → Read left (a + wanted) (suc place) s end)
-        → go_on t place (λ a k. read_from left (a + wanted) k (suc place) s) ≡ Whole end → Read (suc left) (suc wanted) place (c ∷ s) end
-    go (Wants a k) h ih q =
-        let r = ih a k q in
+    go : (t : Result Wants Fault) → asks t (arity (cell_of c))
+        → ((a k : ℕ) → read_from left (a + wanted) k (suc place) s ≡ Ok end → Read left (a + wanted) (suc place) s end)
+        → go_on t place (λ a k. read_from left (a + wanted) k (suc place) s) ≡ Ok end → Read (suc left) (suc wanted) place (c ∷ s) end
+    go (Ok w) h ih q =
+        let r = ih w.arity w.known q in
         record {
           size = suc r.size;
           is = r.is ∙ omega arith;
@@ -87,7 +87,7 @@ reads (suc left) (suc wanted) known place (c ∷ s) end e =
           inside = let l = r.inside in omega arith;
           terms = more (proper_cell c) (recount (ap (λ (x : ℕ). x + wanted) h) r.terms);
         }
-    go (Faulty fault) h ih q = absurd (refused_whole q)
+    go (Err fault) h ih q = absurd (refused_whole q)
 
 -- A whole term: at least one cell and at most 32, all there, and one term in preorder, as it stands and as a blank form.
 pub record TermAt (s : List ℕ) (size : ℕ) : Type 0 where
@@ -102,7 +102,7 @@ some_cells [] zero t = absurd (not_empty t)
 some_cells (c ∷ s) zero t = absurd (not_empty t)
 some_cells s (suc n) t = omega arith
 
-pub whole_term : (s : List ℕ) (size : ℕ) → read_term s ≡ Whole size → TermAt s size
+pub whole_term : (s : List ℕ) (size : ℕ) → read_term s ≡ Ok size → TermAt s size
 unfolding read_term
 whole_term s size e =
     let r = reads 32 1 0 0 s size e in
@@ -116,8 +116,8 @@ whole_term s size e =
     })
 
 -- Its own cells decide it: followed by anything, they are read as the same whole term.
-keeps : (left wanted known place : ℕ) (s t : List ℕ) (end size : ℕ) → read_from left wanted known place s ≡ Whole end → end ≡ place + size
-    → read_from left wanted known place (take size s ++ t) ≡ Whole end
+keeps : (left wanted known place : ℕ) (s t : List ℕ) (end size : ℕ) → read_from left wanted known place s ≡ Ok end → end ≡ place + size
+    → read_from left wanted known place (take size s ++ t) ≡ Ok end
 unfolding read_from
 keeps zero zero known place s t end size e f = e
 keeps zero (suc wanted) known place s t end size e f = absurd (refused_whole e)
@@ -126,18 +126,18 @@ keeps (suc left) (suc wanted) known place [] t end size e f = absurd (refused_wh
 keeps (suc left) (suc wanted) known place (c ∷ s) t end zero e f =
     absurd (later (takes known c) e)
   where
-    later : (x : Taken) → go_on x place (λ a k. read_from left (a + wanted) k (suc place) s) ≡ Whole end → ⊥
-    later (Wants a k) q = let r = reads left (a + wanted) k (suc place) s end q in omega (arith, r.is)
-    later (Faulty fault) q = refused_whole q
+    later : (x : Result Wants Fault) → go_on x place (λ a k. read_from left (a + wanted) k (suc place) s) ≡ Ok end → ⊥
+    later (Ok w) q = let r = reads left (w.arity + wanted) w.known (suc place) s end q in omega (arith, r.is)
+    later (Err fault) q = refused_whole q
 keeps (suc left) (suc wanted) known place (c ∷ s) t end (suc size) e f =
     go (takes known c) (λ a k q. keeps left (a + wanted) k (suc place) s t end size q (omega arith)) e
   where
-    go : (x : Taken) → ((a k : ℕ) → read_from left (a + wanted) k (suc place) s ≡ Whole end → read_from left (a + wanted) k (suc place) (take size s ++ t) ≡ Whole end)
-        → go_on x place (λ a k. read_from left (a + wanted) k (suc place) s) ≡ Whole end
-        → go_on x place (λ a k. read_from left (a + wanted) k (suc place) (take size s ++ t)) ≡ Whole end
-    go (Wants a k) ih q = ih a k q
-    go (Faulty fault) ih q = q
+    go : (x : Result Wants Fault) → ((a k : ℕ) → read_from left (a + wanted) k (suc place) s ≡ Ok end → read_from left (a + wanted) k (suc place) (take size s ++ t) ≡ Ok end)
+        → go_on x place (λ a k. read_from left (a + wanted) k (suc place) s) ≡ Ok end
+        → go_on x place (λ a k. read_from left (a + wanted) k (suc place) (take size s ++ t)) ≡ Ok end
+    go (Ok w) ih q = ih w.arity w.known q
+    go (Err fault) ih q = q
 
-pub whole_alone : (s t : List ℕ) (size : ℕ) → read_term s ≡ Whole size → read_term (take size s ++ t) ≡ Whole size
+pub whole_alone : (s t : List ℕ) (size : ℕ) → read_term s ≡ Ok size → read_term (take size s ++ t) ≡ Ok size
 unfolding read_term
 whole_alone s t size e = keeps 32 1 0 0 s t size size e (omega arith)

@@ -18,12 +18,12 @@ pub const MARK: u16 = 0x8000;
 pub fn arity(c: u16) -> usize
     ensures { (result ≡ arity_of (blank_of c)) × (result ≤ 7) }
 {
-    if c < MARK { (c / 4096) as usize } else { 0 }
+    if c < MARK { usize::from(c / 4096) } else { 0 }
 }
 
 // The cell as a blank form has it: the blank mark for each variable.
 pub fn blank(c: u16) -> u16
     ensures { result ≡ number_of (blank_of c) }
 {
-    if c < MARK { c } else { MARK }
+    c.min(MARK)
 }

@@ -1,26 +1,13 @@
 // The matching machine on a question's cells: what it does where a rule's cell meets one of the question's.
-ghost use Rattle.std.specs.Prelude.{◌≡◌, false};
 ghost use Rattle.term.specs.Steps.{IsSpot, Within, Passed, Stepped};
 
 use crate::{MARK, arity};
 
-// Where the machine stands: is it alive, how many subterms of the rule are still to skip, and how far into the question
-// has it come? The numbers of a failed one are 0.
-#[derive(Drop)]
+// Where the machine stands: how many subterms of the rule are still to skip, and how far into the question has it come?
+#[derive(Clone, Copy, Debug, PartialEq, Eq)]
 pub struct Spot {
-    pub alive: bool,
     pub skip: usize,
     pub place: usize,
-}
-
-fn failed() -> Spot
-    ensures { result ≡ record { alive = false; skip = 0; place = 0 } }
-{
-    Spot {
-        alive: false,
-        skip: 0,
-        place: 0,
-    }
 }
 
 // The place past the next `count` subterms of the question from `place` on.
@@ -29,56 +16,45 @@ pub fn past(question: &[u16], count: usize, place: usize) -> usize
     ensures { Passed question.now count place result }
 {
     let mut wanted = count;
-    let mut at = place;
-    while at < question.len() {
+    for at in place..question.len() {
         if wanted == 0 {
             return at;
         }
         wanted = wanted - 1 + arity(question[at]);
-        at += 1;
     }
-    at
+    question.len()
 }
 
-// The rule's cell c meets the question's cell at `place`.
-pub fn meet(fills_question: bool, fills_rule: bool, question: &[u16], c: u16, place: usize) -> Spot
+// The rule's cell c meets the question's cell at `place`: where the machine stands then, or none where it fails.
+pub fn meet(
+    fills_question: bool,
+    fills_rule: bool,
+    question: &[u16],
+    c: u16,
+    place: usize,
+) -> Option<Spot>
     requires { Within question.now place }
-    ensures { Stepped fills_question fills_rule question.now c 0 place result.alive result.skip result.place }
+    ensures { Stepped fills_question fills_rule question.now c 0 place result }
 {
     let d = question[place];
-    if c == d {
-        return Spot {
-            alive: true,
+    let next = place + 1;
+    match (MARK <= c, MARK <= d) {
+        _ if c == d => Some(Spot {
             skip: 0,
-            place: place + 1,
-        };
+            place: next,
+        }),
+        (true, true) => Some(Spot {
+            skip: 0,
+            place: next,
+        }),
+        (false, true) if fills_question => Some(Spot {
+            skip: arity(c),
+            place: next,
+        }),
+        (true, false) if fills_rule => Some(Spot {
+            skip: 0,
+            place: past(question, arity(d), next),
+        }),
+        _ => None,
     }
-    if MARK <= d {
-        if MARK <= c {
-            return Spot {
-                alive: true,
-                skip: 0,
-                place: place + 1,
-            };
-        }
-        if fills_question {
-            return Spot {
-                alive: true,
-                skip: arity(c),
-                place: place + 1,
-            };
-        }
-        return failed();
-    }
-    if MARK <= c {
-        if fills_rule {
-            return Spot {
-                alive: true,
-                skip: 0,
-                place: past(question, arity(d), place + 1),
-            };
-        }
-        return failed();
-    }
-    failed()
 }

@@ -1,7 +1,8 @@
--- Laws that join the code's numbers to the definitions of specs/.
+-- `Beginning` and `Reading`: how a term begins and goes on. `Words` and `Numbering`: the number of a token; `Counting`: of all tokens.
+-- `Answering`: the answer.
 pub mod Beginning
 pub mod Reading
-pub mod Words
 pub mod Numbering
+pub mod Words
 pub mod Counting
 pub mod Answering

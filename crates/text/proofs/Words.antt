@@ -1,81 +1,82 @@
--- The words at two places, byte by byte, and the place of a word among those known.
-use mathlib.Core.Path.{◌≡◌, refl, sym, ap, ◌∙◌}
-use mathlib.Core.List.{List, [], ◌∷◌}
-use mathlib.Core.Bool.{Bool, true, false, not}
-use Prim.Native.Nat.{ℕ, zero, suc, ◌+◌, ◌≤◌, ◌<◌}
+-- A word of a text, and the place of a word among those known.
+use mathlib.Core.Path.{◌≡◌, refl, ap, ◌∙◌}
+use mathlib.Core.List.{List, [], ◌∷◌, ◌++◌, map}
+use mathlib.Core.Bool.{Bool, true, false, not, cond, ◌&&◌}
+use Prim.Native.Nat.{ℕ, suc, ◌+◌, ◌≤◌, ◌<◌}
 use native.Mathlib.Omega.{arith}
+use lib.Dec.{eqb, ltb}
 use native.Mathlib.Numerals.{add-one}
-use borrow.Author.Tests.{eq-eqb, ne_eqb}
-use lib.ListN.{length, get_or, drop, drop_of_length-le}
-use lib.Seq.{drop-cons}
-use Rattle.deciding.specs.Deciding.{true_not_false}
+use lib.ListN.{length, take, set}
+use lib.Seq.{take-suc-set}
+use Rattle.std.proofs.Common.{length-take-le}
+use Rattle.std.proofs.lemmas.List.{length-map, map-append}
+use Rattle.std.specs.Prelude.{Some, None, unwrap_or}
+use Rattle.std.specs.Str.{bytes_eq}
+use Rattle.std.specs.List.{position_or_len, prefix_len}
+use Rattle.std.proofs.Common.{ltb-false}
+use Rattle.std.proofs.lemmas.List.Recursion.{is_position_or_len}
+use Rattle.std.proofs.lemmas.List.Sums.{prefix_len-le-length}
+use Rattle.deciding.specs.Deciding.{pick}
 use Rattle.names.specs.Table.{same, slot_in}
-use Rattle.tokens.specs.Bytes.{either, within, is_word_byte, head, tail}
-use Rattle.tokens.specs.Tokens.{bare}
-use Rattle.tokens.specs.Ahead.{head_in, past_head}
+use Rattle.tokens.specs.Bytes.{is_word_byte}
+use Rattle.tokens.specs.Tokens.{more, got, bare}
+use denote.Ref.{Bor}
 
--- A byte of a word isn't 0.
-word_byte : (byte : ℕ) → true ≡ is_word_byte byte → 0 < byte
-unfolding either within
-word_byte zero e = absurd (true_not_false (sym e) refl)
-word_byte (suc n) e = omega arith
+-- The bytes of a word are those before the first byte that is none of a word.
+pub word_is : (text : List ℕ) → take (position_or_len (λ byte. not (is_word_byte byte)) text) text ≡ (bare text).bytes
+unfolding bare
+word_is [] = refl
+word_is (byte ∷ bytes) = go (is_word_byte byte) refl (word_is bytes)
+  where
+    go : (b : Bool) → is_word_byte byte ≡ b → take (position_or_len (λ byte. not (is_word_byte byte)) bytes) bytes ≡ (bare bytes).bytes
+        → take (position_or_len (λ byte. not (is_word_byte byte)) (byte ∷ bytes)) (byte ∷ bytes) ≡ (pick b (more byte (bare bytes)) (got 0 [] (byte ∷ bytes))).bytes
+    go true e h =
+        let n : ℕ = prefix_len (λ x. not (not (is_word_byte x))) bytes in
+        let one : 1 + n ≡ suc n = omega arith in
+        rw (e, one) (ap (λ (x : List ℕ). byte ∷ x) h)
+    go false e h = rw e refl
 
-module _ (text : List ℕ) (i byte : ℕ) (is : byte ≡ head (drop i text)) where
-  pub word_in : true ≡ is_word_byte byte → i < length text
-  word_in e = head_in text i (let z = word_byte byte e in omega arith)
+-- What `position` gives, or the length.
+pub or_length : {A : Type 0} (test : A → Bool) (xs : List A) (n : ℕ) → length xs ≡ n
+    → unwrap_or (cond (ltb (position_or_len test xs) (length xs)) (Some (position_or_len test xs)) None) n ≡ position_or_len test xs
+or_length test xs n many = go (ltb (position_or_len test xs) (length xs)) refl
+  where
+    go : (b : Bool) → ltb (position_or_len test xs) (length xs) ≡ b → unwrap_or (cond b (Some (position_or_len test xs)) None) n ≡ position_or_len test xs
+    go true e = refl
+    go false e =
+        let l = ltb-false (position_or_len test xs) (length xs) e in
+        let m = prefix_len-le-length (λ x. not (test x)) xs in
+        omega arith
 
-  pub word_on : true ≡ is_word_byte byte → (bare (drop i text)).bytes ≡ byte ∷ (bare (drop (i + 1) text)).bytes
-  unfolding bare
-  word_on e = go (drop i text) is ∙ ap (λ (x : List ℕ). byte ∷ (bare x).bytes) (sym (past_head text i (word_in e)).rest_is)
-    where
-      go : (s : List ℕ) → byte ≡ head s → (bare s).bytes ≡ byte ∷ (bare (tail s)).bytes
-      go [] h = absurd (let z = word_byte byte e in omega arith)
-      go (x ∷ s) h = rw (← h, ← e)
+-- Two words are the same where they are equal byte by byte.
+same_bytes : (a b : List ℕ) → same a b ≡ bytes_eq a b
+unfolding same
+same_bytes [] [] = refl
+same_bytes [] (y ∷ b) = refl
+same_bytes (x ∷ a) [] = refl
+same_bytes (x ∷ a) (y ∷ b) = go (eqb x y) (same_bytes a b)
+  where
+    go : (e : Bool) → same a b ≡ bytes_eq a b → pick e (same a b) false ≡ (e && bytes_eq a b)
+    go true h = h
+    go false h = refl
 
-  pub word_over : false ≡ is_word_byte byte → (bare (drop i text)).bytes ≡ []
-  unfolding bare
-  word_over e = go (drop i text) is
-    where
-      go : (s : List ℕ) → byte ≡ head s → (bare s).bytes ≡ []
-      go [] h = refl
-      go (x ∷ s) h = rw (← h, ← e)
-
--- Two words, by the next byte of each.
-module _ (text : List ℕ) (i j byte other : ℕ) (is : byte ≡ head (drop i text)) (it : other ≡ head (drop j text)) where
-  pub same_ends : false ≡ is_word_byte byte → not (is_word_byte other) ≡ same (bare (drop i text)).bytes (bare (drop j text)).bytes
-  unfolding same
-  same_ends e = go (is_word_byte other) refl
-    where
-      go : (b : Bool) → is_word_byte other ≡ b → not (is_word_byte other) ≡ same (bare (drop i text)).bytes (bare (drop j text)).bytes
-      go true h = rw (h, word_over text i byte is e, word_on text j other it (sym h))
-      go false h = rw (h, word_over text i byte is e, word_over text j other it (sym h))
-
-  module _ (e : true ≡ is_word_byte byte) where
-    pub same_parts : (byte ≡ other → ⊥) → false ≡ same (bare (drop i text)).bytes (bare (drop j text)).bytes
-    unfolding same
-    same_parts d = go (is_word_byte other) refl
+-- The slot of a word is its position.
+pub slot_is : (word : List ℕ) (known : List (Bor (List ℕ))) → slot_in (map (λ w. w.now) known) word ≡ position_or_len (λ w. bytes_eq w.now word) known
+unfolding slot_in
+slot_is word known = is_position_or_len (λ x. slot_in (map (λ w. w.now) x) word) (λ w. bytes_eq w.now word) refl step known
+  where
+    step : (w : Bor (List ℕ)) (ws : List (Bor (List ℕ)))
+        → slot_in (map (λ w. w.now) (w ∷ ws)) word ≡ cond (bytes_eq w.now word) 0 (1 + slot_in (map (λ w. w.now) ws) word)
+    step w ws = rw (same_bytes w.now word) (go (bytes_eq w.now word))
       where
-        go : (b : Bool) → is_word_byte other ≡ b → false ≡ same (bare (drop i text)).bytes (bare (drop j text)).bytes
-        go true h = rw (word_on text i byte is e, word_on text j other it (sym h), ne_eqb byte other d)
-        go false h = rw (word_on text i byte is e, word_over text j other it (sym h))
+        go : (b : Bool) → pick b 0 (suc (slot_in (map (λ w. w.now) ws) word)) ≡ cond b 0 (1 + slot_in (map (λ w. w.now) ws) word)
+        go true = refl
+        go false = omega arith
 
-    pub same_on : byte ≡ other → same (bare (drop (i + 1) text)).bytes (bare (drop (j + 1) text)).bytes ≡ same (bare (drop i text)).bytes (bare (drop j text)).bytes
-    unfolding same
-    same_on f = rw (word_on text i byte is e, word_on text j other it (e ∙ ap is_word_byte f), eq-eqb byte other f)
+-- As many words are known, and one more is behind them.
+pub known_many : (words : List (Bor (List ℕ))) (known : ℕ) → known ≤ length words → length (map (λ w. w.now) (take known words)) ≡ known
+known_many words known l = length-map (take known words) (λ w. w.now) ∙ length-take-le known words l
 
-    pub other_in : byte ≡ other → j < length text
-    other_in f = word_in text j other it (e ∙ ap is_word_byte f)
-
--- A word's slot, of which the first k don't have it.
-module _ (words : List (List ℕ)) (word : List ℕ) (k : ℕ) (so_far : slot_in words word ≡ k + slot_in (drop k words) word) where
-  pub slot_is_here : k < length words → true ≡ same (get_or words k []) word → k ≡ slot_in words word
-  unfolding slot_in
-  slot_is_here l e = sym (so_far ∙ rw (drop-cons words k [] l, ← e) (omega arith))
-
-  pub slot_on : k < length words → false ≡ same (get_or words k []) word → slot_in words word ≡ k + 1 + slot_in (drop (k + 1) words) word
-  unfolding slot_in
-  slot_on l e = so_far ∙ rw (drop-cons words k [] l, ← e, add-one) (omega arith)
-
-  pub slot_end : length words ≤ k → k ≡ slot_in words word
-  unfolding slot_in
-  slot_end l = sym (so_far ∙ rw (drop_of_length-le words l) (omega arith))
+pub known_more : (words : List (Bor (List ℕ))) (known : ℕ) (word : Bor (List ℕ)) → known < length words
+    → map (λ w. w.now) (take (known + 1) (set words known word)) ≡ map (λ w. w.now) (take known words) ++ word.now ∷ []
+known_more words known word l = rw (add-one, take-suc-set words known word l) (map-append (λ w. w.now) (take known words) (word ∷ []))

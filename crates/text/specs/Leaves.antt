@@ -1,73 +1,154 @@
 -- What the functions below the call promise.
-use Rattle.std.specs.Prelude.{◌≡◌, List, [], ◌++◌, true, false, ℕ, ◌+◌, ◌-◌, ◌*◌, ◌≤◌, ◌<◌, length, get_or, drop}
+use Rattle.std.specs.Prelude.{◌≡◌, List, [], ◌++◌, Bool, true, false, ℕ, ◌+◌, ◌-◌, ◌*◌, ◌≤◌, ◌<◌, Option, unwrap_or, Result, Ok, Err, IfOk, length, get_or, set, drop, take, map}
 use Rattle.names.specs.Table.{Holds, slot_in}
+use Rattle.names.specs.declared.index.Lookup.{Lookup}
 use Rattle.tokens.specs.Bytes.{is_upper_byte, head}
-use Rattle.tokens.specs.Tokens.{bare, token}
+use Rattle.tokens.specs.Tokens.{Got, bare, token}
 use Rattle.tokens.specs.Places.{LeftFrom}
-use Rattle.text.specs.Term.{Token, variable, name, Start, After, Read, term, arguments}
+use Rattle.text.specs.Term.{Token, variable, name, Start, name_start, After, Read, term, arguments}
 use Rattle.text.specs.Naming.{entered, TokenNumber, number_of, TokenCells, naming}
 use Rattle.text.specs.Text.{padded}
+use Rattle.text.specs.Refusals.{Refusal, Names, SeventeenthVariable, NoCell, NoTerm, EighthArgument, number_of_refusal, place_of_refusal, refusal_of}
+use Rattle.text.specs.Promises.{TextRead, refused_read}
+pub use Rattle.text.specs.declared.Term.{Term as Whole}
+pub use Rattle.text.specs.declared.notes.Note.{Note}
+pub use Rattle.text.specs.declared.notes.Notes.{Notes}
 pub use Rattle.text.specs.declared.shape.Begun.{Begun}
+pub use Rattle.text.specs.declared.shape.Begun.TheVariants.{Alone, Opens}
 pub use Rattle.text.specs.declared.shape.Followed.{Followed}
-pub use Rattle.text.specs.declared.shape.Ended.{Ended}
-pub use Rattle.text.specs.declared.naming.Number.{Number}
-pub use Rattle.text.specs.declared.naming.AllNumbered.{AllNumbered}
+pub use Rattle.text.specs.declared.shape.Followed.TheVariants.{Comma, Close}
+pub use Rattle.text.specs.declared.fresh.Fresh.{Fresh}
+pub use Rattle.text.specs.declared.variables.Variables.{Variables}
 
--- The token that begins at a place of the text, with its shape.
-pub data Stands (text : List ℕ) (place shape : ℕ) : Token → Type 0 where
-  a_variable : {word : List ℕ} → place ≤ length text → is_upper_byte (head (drop place text)) ≡ true → (token (drop place text)).bytes ≡ word → shape ≡ 32768 → Stands text place shape (variable word)
-  a_name : {bytes : List ℕ} {arity : ℕ} → place ≤ length text → is_upper_byte (head (drop place text)) ≡ false → (token (drop place text)).bytes ≡ bytes → arity ≤ 8 → shape ≡ arity * 4096
-      → Stands text place shape (name bytes arity)
+-- ---- the shape of a term
 
--- It doesn't begin, or a token without arguments ends there.
-abbrev pub stopped : (fault at shape : ℕ) → Begun
-stopped fault at shape = record { fault = fault; at = at; shape = shape; opens = false }
+-- The note at an index.
+abbrev pub note_at : List Note → ℕ → Note
+note_at notes i = get_or notes i (record { place = 0; shape = 0 })
 
--- How a term begins, without its token.
-pub record Opens (text : List ℕ) (start : Start) (begun : Begun) : Type 0 where
-  pub fault_is : begun.fault ≡ start.fault
-  pub opens_is : begun.opens ≡ start.opens
-  pub left : LeftFrom text start.rest begun.at
-  pub bare : begun.opens ≡ true → begun.shape ≡ 0
+-- The token that a note says.
+pub data Stands (text : List ℕ) (note : Note) : Token → Type 0 where
+  a_variable : {word : List ℕ} → note.place ≤ length text → is_upper_byte (head (drop note.place text)) ≡ true → (token (drop note.place text)).bytes ≡ word
+      → note.shape ≡ 32768 → Stands text note (variable word)
+  a_name : {bytes : List ℕ} {arity : ℕ} → note.place ≤ length text → is_upper_byte (head (drop note.place text)) ≡ false → (token (drop note.place text)).bytes ≡ bytes
+      → arity ≤ 8 → note.shape ≡ arity * 4096 → Stands text note (name bytes arity)
 
--- The same, with its token at a place.
-pub record BeginsAt (text : List ℕ) (place : ℕ) (start : Start) (begun : Begun) : Type 0 where
-  pub opens : Opens text start begun
-  pub stands : begun.fault ≡ 0 → Stands text place begun.shape start.token
+-- It stops with a refusal, and where no term can go on that is where the rest begins.
+abbrev pub StopsAt : (text rest : List ℕ) → Refusal → Type 0
+StopsAt text rest (NoTerm place) = LeftFrom text rest place
+StopsAt text rest (Names refusal) = Unit {0}
+StopsAt text rest SeventeenthVariable = Unit {0}
+StopsAt text rest NoCell = Unit {0}
+StopsAt text rest EighthArgument = Unit {0}
+
+pub record Stops (text rest : List ℕ) (fault : ℕ) (refusal : Refusal) : Type 0 where
+  pub fault_is : number_of_refusal refusal ≡ fault
+  pub at : StopsAt text rest refusal
+
+-- It goes on at a place, or it stops.
+pub record Goes (text rest : List ℕ) (fault place : ℕ) : Type 0 where
+  pub fine : fault ≡ 0
+  pub left : LeftFrom text rest place
+
+abbrev pub EndsAt : (text rest : List ℕ) → (fault : ℕ) → Result ℕ Refusal → Type 0
+EndsAt text rest fault (Ok place) = Goes text rest fault place
+EndsAt text rest fault (Err refusal) = Stops text rest fault refusal
+
+-- How a term begins: whether a bracket opens arguments, the place after it or after the token, and the shape without arguments.
+abbrev pub opens : Begun → Bool
+opens (Alone shape after) = false
+opens (Opens after) = true
+
+abbrev pub place_begun : Begun → ℕ
+place_begun (Alone shape after) = after
+place_begun (Opens after) = after
+
+abbrev pub shape_begun : Begun → ℕ
+shape_begun (Alone shape after) = shape
+shape_begun (Opens after) = 0
+
+-- Without its token.
+pub record Opening (text : List ℕ) (start : Start) (begun : Begun) : Type 0 where
+  pub goes : Goes text start.rest start.fault (place_begun begun)
+  pub opens_is : opens begun ≡ start.opens
+
+-- A name that ended at a place.
+pub record Named (text : List ℕ) (at : ℕ) (begun : Begun) : Type 0 where
+  pub bare : shape_begun begun ≡ 0
+  pub opening : (name : Got) → name.fault ≡ 0 → drop at text ≡ name.rest → Opening text (name_start name) begun
+
+-- With its token at a place.
+pub record Begins (text : List ℕ) (place : ℕ) (start : Start) (begun : Begun) : Type 0 where
+  pub opening : Opening text start begun
+  pub stands : Stands text (record { place = place; shape = shape_begun begun }) start.token
+
+abbrev pub BeginsAt : (text : List ℕ) → (place : ℕ) → Start → Result Begun Refusal → Type 0
+BeginsAt text place start (Ok begun) = Begins text place start begun
+BeginsAt text place start (Err refusal) = Stops text start.rest start.fault refusal
 
 -- What follows an argument.
-pub record Follows (text : List ℕ) (after : After) (followed : Followed) : Type 0 where
-  pub fault_is : followed.fault ≡ after.fault
-  pub comma_is : followed.comma ≡ after.comma
-  pub left : LeftFrom text after.rest followed.at
+abbrev pub is_comma : Followed → Bool
+is_comma (Comma place) = true
+is_comma (Close place) = false
 
--- A list of 64 notes: for each cell the place of its token, and 32 further on its shape. From the cell `from` on they are those of
--- the tokens, and those of the cells before it stay.
-pub record Notes (text : List ℕ) (from : ℕ) (tokens : List Token) (notes notes' : List ℕ) : Type 0 where
-  pub kept : (i : ℕ) → i < from → (get_or notes' i 0 ≡ get_or notes i 0) × (get_or notes' (32 + i) 0 ≡ get_or notes (32 + i) 0)
-  pub noted : (i : ℕ) → i < length tokens → Stands text (get_or notes' (from + i) 0) (get_or notes' (32 + (from + i)) 0) (get_or tokens i (variable []))
+abbrev pub place_followed : Followed → ℕ
+place_followed (Comma place) = place
+place_followed (Close place) = place
 
--- A term or arguments were read.
-pub record ReadEnds (text : List ℕ) (from : ℕ) (notes notes' : List ℕ) (ended : Ended) (read : Read) : Type 0 where
-  pub fault_is : ended.fault ≡ read.fault
-  pub left : LeftFrom text read.rest ended.at
-  pub size_is : ended.size ≡ from + length read.tokens
-  pub count_is : ended.count ≡ read.count
-  pub notes_are : Notes text from read.tokens notes notes'
+pub record FollowedBy (text : List ℕ) (after : After) (followed : Followed) : Type 0 where
+  pub goes : Goes text after.rest after.fault (place_followed followed)
+  pub comma_is : is_comma followed ≡ after.comma
+
+pub record FollowedByNone (text : List ℕ) (after : After) (refusal : Refusal) : Type 0 where
+  pub stops : Stops text after.rest after.fault refusal
+  pub no_comma : after.comma ≡ false
+
+abbrev pub Follows : (text : List ℕ) → After → Result Followed Refusal → Type 0
+Follows text after (Ok followed) = FollowedBy text after followed
+Follows text after (Err refusal) = FollowedByNone text after refusal
+
+-- From the cell `from` on the notes are those of the tokens, and those of the cells before it stay.
+pub record Noted (text : List ℕ) (from : ℕ) (tokens : List Token) (notes notes' : List Note) : Type 0 where
+  pub kept : (i : ℕ) → i < from → note_at notes' i ≡ note_at notes i
+  pub noted : (i : ℕ) → i < length tokens → Stands text (note_at notes' (from + i)) (get_or tokens i (variable []))
+
+-- A term or arguments were read, into the notes from the cell `from` on, up to the cell `size`.
+pub record ReadEnds (text : List ℕ) (from : ℕ) (notes : List Note) (size : ℕ) (notes' : List Note) (end : Result ℕ Refusal) (read : Read) : Type 0 where
+  pub ends : EndsAt text read.rest read.fault end
+  pub size_is : size ≡ from + length read.tokens
+  pub few : read.count ≤ 8
+  pub notes_are : Noted text from read.tokens notes notes'
 
 -- With steps enough.
-abbrev pub TermEnds : (text : List ℕ) → (at argument from : ℕ) → (notes notes' : List ℕ) → Ended → Type 0
-TermEnds text at argument from notes notes' ended =
-    (steps : ℕ) → 2 * (32 - from) + 1 ≤ steps → ReadEnds text from notes notes' ended (term steps argument (32 - from) (drop at text))
+abbrev pub ReadsTerm : (text : List ℕ) → (at argument from : ℕ) → (notes : List Note) → (size : ℕ) → (notes' : List Note) → Result ℕ Refusal → Type 0
+ReadsTerm text at argument from notes size notes' end =
+    (steps : ℕ) → 2 * (32 - from) + 1 ≤ steps → ReadEnds text from notes size notes' end (term steps argument (32 - from) (drop at text))
 
-abbrev pub ArgumentsEnd : (text : List ℕ) → (at count from : ℕ) → (notes notes' : List ℕ) → Ended → Type 0
-ArgumentsEnd text at count from notes notes' ended =
-    (steps : ℕ) → 2 * (32 - from) + 2 ≤ steps → ReadEnds text from notes notes' ended (arguments steps count (32 - from) (drop at text))
+abbrev pub TermEnds : (text : List ℕ) → (at argument : ℕ) → (before after : Notes) → Result ℕ Refusal → Type 0
+TermEnds text at argument before after end = ReadsTerm text at argument before.size before.all after.size after.all end
 
--- The variables met: for each the place where it appears first.
-pub record KnownWords (text places : List ℕ) (known : ℕ) (words : List (List ℕ)) : Type 0 where
-  pub count : length words ≡ known
-  pub each : (k : ℕ) → k < known → get_or words k [] ≡ (bare (drop (get_or places k 0) text)).bytes
+-- The note of a name gets its arguments.
+abbrev pub with_arguments : List Note → (i count : ℕ) → List Note
+with_arguments notes i count = set notes i (record { place = (note_at notes i).place; shape = count * 4096 })
+
+abbrev pub ReadsArguments : (text : List ℕ) → (at count i from : ℕ) → (notes : List Note) → (size : ℕ) → (notes' : List Note) → Result ℕ Refusal → Type 0
+ReadsArguments text at count i from notes size notes' end =
+    (steps : ℕ) → 2 * (32 - from) + 2 ≤ steps
+    → ReadEnds text from (with_arguments notes i (arguments steps count (32 - from) (drop at text)).count) size notes' end (arguments steps count (32 - from) (drop at text))
+
+abbrev pub ArgumentsEnd : (text : List ℕ) → (at count i : ℕ) → (before after : Notes) → Result ℕ Refusal → Type 0
+ArgumentsEnd text at count i before after end = ReadsArguments text at count i before.size before.all after.size after.all end
+
+-- ---- the numbers of its tokens
+
+-- The number, 0 where it is refused.
+abbrev pub number_in : Result ℕ Refusal → ℕ
+number_in (Ok number) = number
+number_in (Err refusal) = 0
+
+-- The words of the variables met.
+abbrev pub known_words : Variables → List (List ℕ)
+known_words variables = map (λ word. word.now) (take variables.known variables.words)
 
 -- The names held by a table, and the new ones gathered in a table of 32 slots.
 pub record GatheredNames (table fresh : List ℕ) (held new : ℕ) (names : List (List ℕ)) : Type 0 where
@@ -81,57 +162,68 @@ pub record GatheredNames (table fresh : List ℕ) (held new : ℕ) (names : List
   pub new_is : length gathered ≡ new
 
 -- A token has its number: what is so of a variable, and of a name.
-pub record NumbersVariable (text places : List ℕ) (numbered : TokenNumber) (r : Number) : Type 0 where
-  pub refusal_is : r.refusal ≡ numbered.refusal
-  pub number_is : r.number ≡ numbered.number
-  pub known : KnownWords text places r.known numbered.variables
+pub record NumbersVariable (known : List (List ℕ)) (numbered : TokenNumber) (r : Result ℕ Refusal) : Type 0 where
+  pub refusal_is : refusal_of r ≡ numbered.refusal
+  pub number_is : number_in r ≡ numbered.number
+  pub known_is : known ≡ numbered.variables
 
-pub record NumbersName (table fresh : List ℕ) (held : ℕ) (numbered : TokenNumber) (r : Number) : Type 0 where
-  pub refusal_is : r.refusal ≡ numbered.refusal
-  pub number_is : r.number ≡ numbered.number
-  pub gathered : GatheredNames table fresh held r.new numbered.names
+pub record NumbersName (table fresh : List ℕ) (held new : ℕ) (numbered : TokenNumber) (r : Result ℕ Refusal) : Type 0 where
+  pub refusal_is : refusal_of r ≡ numbered.refusal
+  pub number_is : number_in r ≡ numbered.number
+  pub gathered : GatheredNames table fresh held new numbered.names
 
-pub record EntersName (table fresh : List ℕ) (held : ℕ) (names : List (List ℕ)) (name : List ℕ) (r : Number) : Type 0 where
-  pub number_is : r.number ≡ slot_in names name
-  pub gathered : GatheredNames table fresh held r.new (entered names name)
+pub record EntersName (table fresh : List ℕ) (held new : ℕ) (names : List (List ℕ)) (name : List ℕ) (number : ℕ) : Type 0 where
+  pub number_is : number ≡ slot_in names name
+  pub gathered : GatheredNames table fresh held new (entered names name)
 
-pub record Numbers (text table places fresh : List ℕ) (held : ℕ) (numbered : TokenNumber) (r : Number) : Type 0 where
-  pub refusal_is : r.refusal ≡ numbered.refusal
-  pub number_is : r.number ≡ numbered.number
-  pub known : KnownWords text places r.known numbered.variables
-  pub gathered : GatheredNames table fresh held r.new numbered.names
+pub record Numbers (known : List (List ℕ)) (table fresh : List ℕ) (held new : ℕ) (numbered : TokenNumber) (r : Result ℕ Refusal) : Type 0 where
+  pub refusal_is : refusal_of r ≡ numbered.refusal
+  pub number_is : number_in r ≡ numbered.number
+  pub known_is : known ≡ numbered.variables
+  pub gathered : GatheredNames table fresh held new numbered.names
 
 -- All tokens have their numbers: the refusal, and without one the names and the cells.
-pub record Tokens (text notes : List ℕ) (tokens : List Token) : Type 0 where
-  pub stands : (i : ℕ) → i < length tokens → Stands text (get_or notes i 0) (get_or notes (32 + i) 0) (get_or tokens i (variable []))
+pub record Tokens (text : List ℕ) (notes : List Note) (tokens : List Token) : Type 0 where
+  pub stands : (i : ℕ) → i < length tokens → Stands text (note_at notes i) (get_or tokens i (variable []))
 
-pub record NumbersAll (table fresh cells : List ℕ) (held : ℕ) (named : TokenCells) (r : AllNumbered) : Type 0 where
-  pub refusal_is : r.refusal ≡ named.refusal
-  pub cells_are : r.refusal ≡ 0 → cells ≡ padded named.cells
-  pub gathered : r.refusal ≡ 0 → GatheredNames table fresh held r.new named.names
+pub record NumbersAll (table fresh : List ℕ) (held new : ℕ) (named : TokenCells) (r : Result (List ℕ) Refusal) : Type 0 where
+  pub refusal_is : refusal_of r ≡ named.refusal
+  pub cells_are : IfOk r (λ cells. cells ≡ padded named.cells)
+  pub gathered : named.refusal ≡ 0 → GatheredNames table fresh held new named.names
 
--- For any names and variables before it.
-abbrev pub FindsVariable : (text : List ℕ) → (at : ℕ) → (places : List ℕ) → (known number : ℕ) → Type 0
-FindsVariable text at places known number = (words : List (List ℕ)) → KnownWords text places known words → number ≡ slot_in words (bare (drop at text)).bytes
+-- For any names before it.
+abbrev pub FindsVariable : Variables → (word : List ℕ) → Option ℕ → Type 0
+FindsVariable variables word found = unwrap_or found variables.known ≡ slot_in (known_words variables) word
 
-abbrev pub NumbersVariables : (text : List ℕ) → (at : ℕ) → (places : List ℕ) → (known : ℕ) → (places' : List ℕ) → Number → Type 0
-NumbersVariables text at places known places' r =
-    (names words : List (List ℕ)) → KnownWords text places known words → NumbersVariable text places' (number_of names words (variable (bare (drop at text)).bytes)) r
+abbrev pub NumbersVariables : (text : List ℕ) → (at : ℕ) → (before after : Variables) → Result ℕ Refusal → Type 0
+NumbersVariables text at before after r =
+    (names : List (List ℕ)) → NumbersVariable (known_words after) (number_of names (known_words before) (variable (bare (drop at text)).bytes)) r
 
-abbrev pub EntersNames : (table : List ℕ) → (held : ℕ) → (fresh : List ℕ) → (new : ℕ) → (bytes fresh' : List ℕ) → Number → Type 0
-EntersNames table held fresh new bytes fresh' r = (names : List (List ℕ)) → GatheredNames table fresh held new names → EntersName table fresh' held names bytes r
+abbrev pub EntersNames : Lookup → (before : Fresh) → (bytes : List ℕ) → (after : Fresh) → ℕ → Type 0
+EntersNames lookup before bytes after number =
+    (names : List (List ℕ)) → GatheredNames lookup.table.now before.table lookup.held before.count names
+    → EntersName lookup.table.now after.table lookup.held after.count names bytes number
 
-abbrev pub NumbersNames : (text : List ℕ) → (at : ℕ) → (table : List ℕ) → (held : ℕ) → (fresh : List ℕ) → (new : ℕ) → (fresh' : List ℕ) → Number → Type 0
-NumbersNames text at table held fresh new fresh' r =
-    (names words : List (List ℕ)) (arity : ℕ) → GatheredNames table fresh held new names
-    → NumbersName table fresh' held (number_of names words (name (token (drop at text)).bytes arity)) r
+abbrev pub NumbersNames : (text : List ℕ) → (at : ℕ) → Lookup → (before after : Fresh) → Result ℕ Refusal → Type 0
+NumbersNames text at lookup before after r =
+    (names words : List (List ℕ)) (arity : ℕ) → GatheredNames lookup.table.now before.table lookup.held before.count names
+    → NumbersName lookup.table.now after.table lookup.held after.count (number_of names words (name (token (drop at text)).bytes arity)) r
 
-abbrev pub NumbersAny : (text table : List ℕ) → (held at : ℕ) → (places : List ℕ) → (known : ℕ) → (fresh : List ℕ) → (new : ℕ) → (places' fresh' : List ℕ) → Number → Type 0
-NumbersAny text table held at places known fresh new places' fresh' r =
-    (names words : List (List ℕ)) (token : Token) (shape : ℕ) → Stands text at shape token → KnownWords text places known words → GatheredNames table fresh held new names
-    → Numbers text table places' fresh' held (number_of names words token) r
+abbrev pub NumbersAny : (text : List ℕ) → (at : ℕ) → Lookup → (variables : Variables) → (fresh : Fresh) → (variables' : Variables) → (fresh' : Fresh) → Result ℕ Refusal → Type 0
+NumbersAny text at lookup variables fresh variables' fresh' r =
+    (names : List (List ℕ)) (token : Token) (shape : ℕ) → Stands text (record { place = at; shape = shape }) token
+    → GatheredNames lookup.table.now fresh.table lookup.held fresh.count names
+    → Numbers (known_words variables') lookup.table.now fresh'.table lookup.held fresh'.count (number_of names (known_words variables) token) r
 
-abbrev pub NumbersTokens : (text table : List ℕ) → (held : ℕ) → (notes : List ℕ) → (size : ℕ) → (fresh cells : List ℕ) → AllNumbered → Type 0
-NumbersTokens text table held notes size fresh cells r =
-    (names : List (List ℕ)) (free : ℕ) (tokens : List Token) → Holds table names free → length names ≡ held → length tokens ≡ size → Tokens text notes tokens
-    → NumbersAll table fresh cells held (naming names [] tokens) r
+abbrev pub NumbersTokens : (text : List ℕ) → Lookup → Notes → Fresh → Result (List ℕ) Refusal → Type 0
+NumbersTokens text lookup notes fresh r =
+    (names : List (List ℕ)) (free : ℕ) (tokens : List Token) → Holds lookup.table.now names free → length names ≡ lookup.held → length tokens ≡ notes.size
+    → Tokens text notes.all tokens
+    → NumbersAll lookup.table.now fresh.table lookup.held fresh.count (naming names [] tokens) r
+
+-- ---- the answer
+
+-- A term that was read, or a refusal, as the call gives it.
+abbrev pub outcome : Result Whole Refusal → TextRead
+outcome (Ok term) = record { refusal = 0; place = term.place; size = term.size; cells = term.cells }
+outcome (Err refusal) = refused_read (number_of_refusal refusal) (place_of_refusal refusal)

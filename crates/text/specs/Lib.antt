@@ -6,4 +6,5 @@ pub mod Text
 pub mod Promises
 pub mod Examples
 pub mod Steps
+pub mod Refusals
 pub mod Leaves

@@ -2,17 +2,27 @@
 // text are, `Naming` which numbers they get, `Text` what is answered, and `Promises` what the call promises.
 #![tactic(auto)]
 
+mod fresh;
 mod naming;
+mod notes;
+mod refusal;
 mod shape;
+mod variables;
 
-ghost use Rattle.std.specs.Prelude.{◌≡◌};
 ghost use Rattle.names.specs.Calls.{Counts};
 ghost use Rattle.names.specs.Index.{Indexed};
-ghost use Rattle.text.specs.Promises.{Reads, refused_read};
+ghost use Rattle.text.specs.Promises.{Reads};
+ghost use Rattle.text.specs.Leaves.{outcome};
 
-use names::Check;
+use fresh::Fresh;
+use names::Lookup;
+use names::checking::Counted;
+use naming::number_all;
+use notes::{CELLS, Notes};
+use refusal::Refusal;
 
 // The refusal or 0; the place after the term, with 20 the byte's; its count of cells; its cells and zeros. Refused, all else is 0.
+// C reads it (include/claggyfoot.h), so a refusal is a number here.
 #[repr(C)]
 #[derive(Drop)]
 pub struct TextRead {
@@ -22,69 +32,68 @@ pub struct TextRead {
     pub cells: [u16; 32],
 }
 
-fn wide(n: usize) -> u64
-    ensures { result ≡ n }
-{
-    n as u64
-}
-
-fn refused(refusal: u64, place: u64) -> TextRead
-    ensures { result ≡ refused_read refusal place }
-{
-    TextRead {
-        refusal,
-        place,
-        size: 0,
-        cells: [0u16; 32],
-    }
+// A term that was read: the place after it, its count of cells, and its cells and zeros: of one length, since there is no heap.
+#[derive(Clone, Copy, Debug, PartialEq, Eq)]
+struct Term {
+    place: usize,
+    size: usize,
+    cells: [u16; CELLS],
 }
 
 // Reads one term from the beginning of a text.
 pub fn read(table: &mut [u8], text: &[u8]) -> TextRead
     ensures { Reads table.old text.now result table.new }
 {
-    let mut index = [0u16; names::INDEX];
-    match names::checking::check_into(table, &mut index) {
-        Check::Fails => refused(1, 0),
-        Check::Good { held, free } => read_passing(table, held, free, text, &index),
+    match read_term(table, text) {
+        Ok(term) => {
+            let cells = term.cells;
+            TextRead {
+                refusal: 0,
+                place: term.place as u64,
+                size: term.size as u64,
+                cells,
+            }
+        }
+        Err(refusal) => TextRead {
+            refusal: u64::from(refusal),
+            place: refusal.place() as u64,
+            size: 0,
+            cells: [0u16; CELLS],
+        },
     }
 }
 
-// The same, with a table that passes. The table is written last, where nothing can be refused any more.
-fn read_passing(table: &mut [u8], held: usize, free: usize, text: &[u8], index: &[u16]) -> TextRead
-    requires counts { Counts table.old held free }
-    requires indexed { Indexed table.old held index.now }
-    ensures { Reads table.old text.now result table.new }
+fn read_term(table: &mut [u8], text: &[u8]) -> Result<Term, Refusal>
+    ensures { Reads table.old text.now (outcome result) table.new }
 {
-    let mut notes = [0usize; 64];
+    let mut index = [0u16; names::INDEX];
+    let counted = names::checking::check_into(table, &mut index)?;
+    read_passing(table, counted, text, &index)
+}
+
+// The same, with a table that passes. The table is written last, where nothing can be refused any more, so no `Lookup` holds it all
+// along.
+fn read_passing(
+    table: &mut [u8],
+    counted: Counted,
+    text: &[u8],
+    index: &[u16],
+) -> Result<Term, Refusal>
+    requires counts { Counts table.old counted.held counted.free }
+    requires indexed { Indexed table.old counted.held index.now }
+    ensures { Reads table.old text.now (outcome result) table.new }
+{
+    let Counted { held, free } = counted;
+    let mut notes = Notes::none();
     let begin = tokens::gap(text, 0);
-    let ended = shape::term(text, begin, 0, 0, &mut notes);
-    let size = ended.size;
-    let mut fresh = [0u8; 1024];
-    let mut cells = [0u16; 32];
-    let numbered = naming::number_all(
-        table, held, text, &notes, size, &mut fresh, &mut cells, index,
-    );
-    let refusal = numbered.refusal;
-    if refusal != 0 {
-        return refused(refusal, 0);
+    let end = shape::term(text, begin, 0, &mut notes);
+    let mut fresh = Fresh::none();
+    let cells = number_all(&Lookup { table, index, held }, text, &notes, &mut fresh)?;
+    let place = end?;
+    if free < fresh.count {
+        return Err(Refusal::Names(names::refusal::Refusal::NoSlot));
     }
-    let fault = ended.fault;
-    if fault == 20 {
-        return refused(20, wide(ended.at));
-    }
-    if fault != 0 {
-        return refused(fault, 0);
-    }
-    let new = numbered.new;
-    if free < new {
-        return refused(12, 0);
-    }
-    names::append(table, held, &fresh, new);
-    TextRead {
-        refusal: 0,
-        place: wide(ended.at),
-        size: wide(size),
-        cells,
-    }
+    names::append(table, held, &fresh.table, fresh.count);
+    let size = notes.size;
+    Ok(Term { place, size, cells })
 }

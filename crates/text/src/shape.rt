@@ -1,191 +1,134 @@
 // The tokens of a term: where each begins, and its shape. A term calls for its arguments and they call for terms.
-ghost use Rattle.std.specs.Prelude.{◌≡◌, ◌+◌, ◌-◌, ◌*◌, ◌≤◌, ◌<◌, length, drop, true, false};
-ghost use Rattle.tokens.specs.Tokens.{Got};
-ghost use Rattle.text.specs.Term.{start_of, name_start, after_of};
-ghost use Rattle.text.specs.Leaves.{stopped, Opens, BeginsAt, Follows, TermEnds, ArgumentsEnd};
+ghost use Rattle.std.specs.Prelude.{◌-◌, ◌≤◌, ◌<◌, length, drop, IfOk};
+ghost use Rattle.tokens.specs.Tokens.{skip};
+ghost use Rattle.text.specs.Term.{start_of, mark};
+ghost use Rattle.text.specs.Leaves.{Named, BeginsAt, Follows, TermEnds, ArgumentsEnd};
 
-// How a term begins: fault 0, 20, 21 or 5; the place after its first token or its bracket, or of the fault; the token's shape
-// without arguments; and whether a bracket opens some.
-#[derive(Drop)]
-pub struct Begun {
-    pub fault: u64,
-    pub at: usize,
-    pub shape: usize,
-    pub opens: bool,
+use crate::notes::{CELLS, Note, Notes};
+use crate::refusal::Refusal;
+
+// Text and place stay apart, as gap and token of `tokens` take them: a struct of both would be made anew at each step.
+
+// The shape of a variable, and what each argument adds to the shape of a name.
+const VARIABLE: usize = 32768;
+
+const ARGUMENT: usize = 4096;
+
+// How a term begins: its first token has no arguments, and this shape, or a bracket opens some; and the place after token or bracket.
+#[derive(Clone, Copy, Debug, PartialEq, Eq)]
+pub enum Begun {
+    Alone { shape: usize, after: usize },
+    Opens { after: usize },
 }
 
-// What follows an argument: fault 0 or 20, the place after the comma or bracket, and whether it is a comma.
-#[derive(Drop)]
-pub struct Followed {
-    pub fault: u64,
-    pub at: usize,
-    pub comma: bool,
+// What follows an argument, and the place after it.
+#[derive(Clone, Copy, Debug, PartialEq, Eq)]
+pub enum Followed {
+    Comma(usize),
+    Close(usize),
 }
 
-// How a term or arguments ended: the fault, the place, how many cells are filled up to there, and how many arguments.
-#[derive(Drop)]
-pub struct Ended {
-    pub fault: u64,
-    pub at: usize,
-    pub size: usize,
-    pub count: usize,
-}
-
-// The shape of a variable.
-pub const VARIABLE: usize = 32768;
-
-// The cells of a term. The notes of a reading have a place for each, and behind these a shape for each.
-pub const CELLS: usize = 32;
-
-// It doesn't begin, or a token without arguments ends there.
-fn stop(fault: u64, at: usize, shape: usize) -> Begun
-    ensures { result ≡ stopped fault at shape }
-{
-    Begun {
-        fault,
-        at,
-        shape,
-        opens: false,
-    }
-}
-
-// What comes after a name that ended with a fault or without: a bracket is looked for past blanks and comments.
-fn opening(text: &[u8], fault: u64, at: usize) -> Begun
+// What comes after a name: a bracket is looked for past blanks and comments.
+fn opening(text: &[u8], at: usize) -> Begun
     requires { at ≤ length text.now }
-    ensures { (result.shape ≡ 0) × ((name : Got) → fault ≡ name.fault → drop at text.now ≡ name.rest → Opens text.now (name_start name) result) }
+    ensures { Named text.now at result }
 {
-    if fault != 0 {
-        return stop(fault, at, 0);
-    }
     let open = tokens::gap(text, at);
     if tokens::first(text, open) == b'(' {
-        return Begun {
-            fault: 0,
-            at: open + 1,
+        Begun::Opens { after: open + 1 }
+    } else {
+        Begun::Alone {
             shape: 0,
-            opens: true,
-        };
+            after: at,
+        }
     }
-    stop(0, at, 0)
 }
 
-// How a term begins. It is a whole one (0) or an argument (1 to 8), and `from` cells are before it.
-fn start(text: &[u8], at: usize, argument: usize, from: usize) -> Begun
+// How a term begins. It is a whole one (0) or an argument (1 to 8), a count as in `start_of` and `term` of specs/Term,
+// and `from` cells are before it.
+fn start(text: &[u8], at: usize, argument: usize, from: usize) -> Result<Begun, Refusal>
     requires { (at ≤ length text.now) × (argument ≤ 8) × (from ≤ 32) }
-    ensures on { (argument < 8 + result.fault) × (from < 32 + result.fault) }
+    ensures on { IfOk result (λ begun. (argument < 8) × (from < 32)) }
     ensures is { BeginsAt text.now at (start_of argument (32 - from) (drop at text.now)) result }
 {
     let byte = tokens::first(text, at);
     if !tokens::begins(byte) {
-        return stop(20, at, 0);
+        return Err(Refusal::NoTerm(at));
     }
     if argument == 8 {
-        return stop(21, at, 0);
+        return Err(Refusal::EighthArgument);
     }
     if from == CELLS {
-        return stop(5, at, 0);
+        return Err(Refusal::NoCell);
     }
     let mut buffer = [0u8; 32];
-    let token = tokens::token(text, at, &mut buffer);
+    let after = tokens::token(text, at, &mut buffer).end?;
     if tokens::is_upper(byte) {
-        return stop(0, token.at, VARIABLE);
+        return Ok(Begun::Alone {
+            shape: VARIABLE,
+            after,
+        });
     }
-    opening(text, token.fault, token.at)
+    Ok(opening(text, after))
 }
 
-// What follows an argument that ended with a fault or without.
-fn follow(text: &[u8], fault: u64, at: usize) -> Followed
+// What follows an argument.
+fn follow(text: &[u8], at: usize) -> Result<Followed, Refusal>
     requires { at ≤ length text.now }
-    ensures on { result.comma ≡ true → fault ≡ 0 }
-    ensures is { Follows text.now (after_of fault (drop at text.now)) result }
+    ensures { Follows text.now (mark (skip (drop at text.now))) result }
 {
-    if fault != 0 {
-        return Followed {
-            fault,
-            at,
-            comma: false,
-        };
-    }
     let next = tokens::gap(text, at);
-    let byte = tokens::first(text, next);
-    if byte == b',' {
-        return Followed {
-            fault: 0,
-            at: next + 1,
-            comma: true,
-        };
-    }
-    if byte == b')' {
-        return Followed {
-            fault: 0,
-            at: next + 1,
-            comma: false,
-        };
-    }
-    Followed {
-        fault: 20,
-        at: next,
-        comma: false,
+    match tokens::first(text, next) {
+        b',' => Ok(Followed::Comma(next + 1)),
+        b')' => Ok(Followed::Close(next + 1)),
+        _ => Err(Refusal::NoTerm(next)),
     }
 }
 
-// A term from its first byte on, into the cells from `from` on.
+// A term from its first byte on, with a note for each token behind those that are there: the place after it. `argument` is a count, as
+// in `start`.
 #[cycle(arguments_term)]
-pub fn term(text: &[u8], at: usize, argument: usize, from: usize, notes: &mut [usize]) -> Ended
-    requires { (at ≤ length text.now) × (argument ≤ 8) × (from ≤ 32) × (length notes.old ≡ 64) }
-    ensures on { (argument < 8 + result.fault) × (from ≤ result.size) × (from < result.size + result.fault) × (result.size ≤ 32) × (result.at ≤ length text.now) }
-    ensures is { TermEnds text.now at argument from notes.old notes.new result }
+pub fn term(text: &[u8], at: usize, argument: usize, notes: &mut Notes) -> Result<usize, Refusal>
+    requires { (at ≤ length text.now) × (argument ≤ 8) }
+    ensures on { IfOk result (λ after. (argument < 8) × (notes.old.size < notes.new.size) × (after ≤ length text.now)) }
+    ensures is { TermEnds text.now at argument notes.old notes.new result }
 {
-    let begun = start(text, at, argument, from);
-    let fault = begun.fault;
-    let next = begun.at;
-    if fault != 0 {
-        return Ended {
-            fault,
-            at: next,
-            size: from,
-            count: 0,
-        };
-    }
-    notes[from] = at;
-    if begun.opens {
-        let ended = arguments(text, next, 0, from + 1, notes);
-        let count = ended.count;
-        notes[CELLS + from] = count * 4096;
-        return Ended {
-            fault: ended.fault,
-            at: ended.at,
-            size: ended.size,
-            count: 0,
-        };
-    }
-    notes[CELLS + from] = begun.shape;
-    Ended {
-        fault: 0,
-        at: next,
-        size: from + 1,
-        count: 0,
+    let from = notes.size;
+    match start(text, at, argument, from)? {
+        Begun::Alone { shape, after } => {
+            notes.push(Note { place: at, shape });
+            Ok(after)
+        }
+        Begun::Opens { after } => {
+            notes.push(Note {
+                place: at,
+                shape: 0,
+            });
+            arguments(text, after, 0, from, notes)
+        }
     }
 }
 
-// The arguments from the byte after a bracket or a comma on, with so many before them.
+// The arguments of a noted name, from the byte after a bracket or a comma on, with so many before them: the place after the
+// closing bracket.
 #[cycle(arguments_term)]
-pub fn arguments(text: &[u8], at: usize, before: usize, from: usize, notes: &mut [usize]) -> Ended
-    requires { (at ≤ length text.now) × (before ≤ 7) × (from ≤ 32) × (length notes.old ≡ 64) }
-    ensures on { (from ≤ result.size) × (result.size ≤ 32) × (result.count ≤ 8) × (result.at ≤ length text.now) }
-    ensures is { ArgumentsEnd text.now at before from notes.old notes.new result }
+pub fn arguments(
+    text: &[u8],
+    at: usize,
+    before: usize,
+    name: usize,
+    notes: &mut Notes,
+) -> Result<usize, Refusal>
+    requires { (at ≤ length text.now) × (before ≤ 7) × (name < notes.old.size) }
+    ensures on { IfOk result (λ after. after ≤ length text.now) × (notes.old.size ≤ notes.new.size) }
+    ensures is { ArgumentsEnd text.now at before name notes.old notes.new result }
 {
+    let count = before + 1;
+    notes.all[name].shape = count * ARGUMENT;
     let begin = tokens::gap(text, at);
-    let argument = term(text, begin, before + 1, from, notes);
-    let size = argument.size;
-    let after = follow(text, argument.fault, argument.at);
-    if after.comma {
-        return arguments(text, after.at, before + 1, size, notes);
-    }
-    Ended {
-        fault: after.fault,
-        at: after.at,
-        size,
-        count: before + 1,
+    let end = term(text, begin, count, notes)?;
+    match follow(text, end)? {
+        Followed::Comma(next) => arguments(text, next, count, name, notes),
+        Followed::Close(next) => Ok(next),
     }
 }

@@ -13,7 +13,7 @@ pub data Gap : (inside : Bool) → List ℕ → Type 0 where
   remark : {byte : ℕ} {gap : List ℕ} → (byte ≡ 10 → ⊥) → Gap true gap → Gap true (byte ∷ gap)
   ends : {gap : List ℕ} → Gap false gap → Gap true (10 ∷ gap)
 
-abbrev skip_in : (inside : Bool) → List ℕ → List ℕ
+abbrev pub skip_in : (inside : Bool) → List ℕ → List ℕ
 skip_in inside text = pick inside (comment text) (skip text)
 
 skip_gap_in : {inside : Bool} {gap : List ℕ} → Gap inside gap → (text : List ℕ) → skip_in inside (gap ++ text) ≡ skip text

@@ -1,202 +1,134 @@
 // The tokens of a text, by the place where each begins. The meaning stands in specs/Tokens.
 #![tactic(auto)]
 
+mod bytes;
+
 ghost use Rattle.std.specs.Prelude.{◌≡◌, List, [], ◌∷◌, ◌++◌, ℕ, ◌≤◌, length, drop};
-ghost use Rattle.tokens.specs.Bytes.{either, within, is_lower_byte, is_upper_byte, is_digit_byte, is_word_byte, is_blank_byte, begins, is_escaped_byte, head};
-ghost use Rattle.tokens.specs.Tokens.{skip, comment, bare, quoted, token};
-ghost use Rattle.tokens.specs.Places.{LeftFrom, Keeps, TokenEnds};
+ghost use Rattle.tokens.specs.Tokens.{skip, bare, quoted, token};
+ghost use Rattle.tokens.specs.Places.{LeftFrom, Keeps, ended, TokenEnds};
 
-// How a token ended: fault 0 or 20, the place after it or of the fault, and how many of its bytes are in the buffer.
-#[derive(Drop)]
-pub struct Ended {
-    pub fault: u64,
+pub use bytes::{begins, first, is_upper, is_word};
+use bytes::{is_blank, is_escaped};
+use std::error::Error;
+use std::fmt;
+
+// The place of a byte, or the text's end, where a token can't go on.
+#[derive(Clone, Copy, Debug, PartialEq, Eq)]
+pub struct Broken {
     pub at: usize,
+}
+
+impl fmt::Display for Broken {
+    fn fmt<W: fmt::Write>(&self, f: &mut fmt::Formatter<W>) -> fmt::Result {
+        let at = self.at;
+        write!(f, "no token can go on at byte {at}")
+    }
+}
+
+impl Error for Broken {}
+
+// How a token ended: how many of its bytes are in the buffer, and the place after it.
+#[derive(Clone, Copy, Debug, PartialEq, Eq)]
+pub struct Ended {
     pub size: usize,
+    pub end: Result<usize, Broken>,
 }
 
-fn either(a: bool, b: bool) -> bool
-    ensures { result ≡ either a b }
-{
-    if a {
-        return true;
-    }
-    b
-}
-
-fn within(low: u8, high: u8, byte: u8) -> bool
-    ensures { result ≡ within low high byte }
-{
-    if low <= byte {
-        return byte <= high;
-    }
-    false
-}
-
-fn is_lower(byte: u8) -> bool
-    ensures { result ≡ is_lower_byte byte }
-{
-    within(b'a', b'z', byte)
-}
-
-pub fn is_upper(byte: u8) -> bool
-    ensures { result ≡ is_upper_byte byte }
-{
-    within(b'A', b'Z', byte)
-}
-
-fn is_digit(byte: u8) -> bool
-    ensures { result ≡ is_digit_byte byte }
-{
-    within(b'0', b'9', byte)
-}
-
-pub fn is_word(byte: u8) -> bool
-    ensures { result ≡ is_word_byte byte }
-{
-    either(
-        is_lower(byte),
-        either(is_upper(byte), either(is_digit(byte), byte == b'_')),
-    )
-}
-
-fn is_blank(byte: u8) -> bool
-    ensures { result ≡ is_blank_byte byte }
-{
-    either(byte == b' ', either(byte == b'\t', byte == b'\n'))
-}
-
-pub fn begins(byte: u8) -> bool
-    ensures { result ≡ begins byte }
-{
-    either(is_lower(byte), either(is_upper(byte), byte == b'\''))
-}
-
-fn is_escaped(byte: u8) -> bool
-    ensures { result ≡ is_escaped_byte byte }
-{
-    either(byte == b'\'', byte == b'\\')
-}
-
-// The byte at a place, 0 at the end.
-pub fn first(text: &[u8], at: usize) -> u8
-    ensures { result ≡ head (drop at text.now) }
-{
-    if at < text.len() {
-        return text[at];
-    }
-    0
-}
-
-// The place of the newline that ends the comment, or the text's end.
-fn comment_end(text: &[u8], at: usize) -> usize
-    requires { at ≤ length text.now }
-    ensures { (at ≤ result) × (result ≤ length text.now) × (skip (drop result text.now) ≡ comment (drop at text.now)) }
-{
-    let mut i = at;
-    while i < text.len() {
-        if text[i] == b'\n' {
-            return i;
-        }
-        i += 1;
-    }
-    i
-}
+// Text and place stay apart, as docs/CONTRACTS.md has them for gap and token: a struct of both would be made anew at each step.
 
 // The place past space, tab, newline and comments.
 pub fn gap(text: &[u8], at: usize) -> usize
     requires { at ≤ length text.now }
     ensures { LeftFrom text.now (skip (drop at text.now)) result }
 {
-    let mut i = at;
-    while i < text.len() {
+    let mut in_comment = false;
+    for i in at..text.len() {
         let byte = text[i];
-        if byte == b'%' {
-            i = comment_end(text, i + 1);
-            continue;
-        }
-        if !is_blank(byte) {
+        if in_comment {
+            in_comment = byte != b'\n';
+        } else if byte == b'%' {
+            in_comment = true;
+        } else if !is_blank(byte) {
             return i;
         }
-        i += 1;
     }
-    i
+    text.len()
 }
 
-// One byte more of a token, kept while there is room: a 32nd shows that it is too long for a name.
-fn put(buffer: &mut [u8], size: usize, byte: u8) -> usize
-    requires { (length buffer.old ≡ 32) × (size ≤ 32) }
-    ensures on { result ≤ 32 }
-    ensures is { (bytes : List ℕ) → Keeps buffer.old size bytes → Keeps buffer.new result (bytes ++ byte ∷ []) }
-{
-    if size < 32 {
-        buffer[size] = byte;
-        return size + 1;
+// The bytes of a token so far, the first 32 of them in a buffer: a 32nd shows that it is too long for a name.
+#[derive(Drop)]
+struct Kept<'a> {
+    buffer: &'a mut [u8],
+    size: usize,
+    ghost room: { length buffer.now ≡ 32 },
+    ghost few: { size ≤ 32 },
+}
+
+impl<'a> Kept<'a> {
+    fn put(&mut self, byte: u8)
+        ensures is { (bytes : List ℕ) → Keeps self.old.buffer.now self.old.size bytes
+            → Keeps self.new.buffer.now self.new.size (bytes ++ byte ∷ []) }
+        ensures same_buffer { self.new.buffer.ghost_name ≡ self.old.buffer.ghost_name }
+    {
+        if self.size < 32 {
+            self.buffer[self.size] = byte;
+            self.size += 1;
+        }
     }
-    size
 }
 
 // A word.
-fn bare(text: &[u8], at: usize, buffer: &mut [u8]) -> Ended
-    requires { (at ≤ length text.now) × (length buffer.old ≡ 32) }
-    ensures { TokenEnds text.now buffer.new (bare (drop at text.now)) result }
+fn bare(text: &[u8], at: usize, kept: &mut Kept) -> usize
+    requires { (at ≤ length text.now) × (kept.old.size ≡ 0) }
+    ensures is { TokenEnds text.now kept.new.buffer.now (bare (drop at text.now)) (ended kept.new.size (Ok result)) }
+    ensures same_buffer { kept.new.buffer.ghost_name ≡ kept.old.buffer.ghost_name }
 {
-    let mut i = at;
-    let mut size = 0;
-    while i < text.len() {
+    for i in at..text.len() {
         let byte = text[i];
         if !is_word(byte) {
-            return Ended {
-                fault: 0,
-                at: i,
-                size,
-            };
+            return i;
         }
-        size = put(buffer, size, byte);
-        i += 1;
+        kept.put(byte);
     }
-    Ended {
-        fault: 0,
-        at: i,
-        size,
-    }
+    text.len()
 }
 
 // A name after its opening quote.
-fn quoted(text: &[u8], at: usize, buffer: &mut [u8]) -> Ended
-    requires { (at ≤ length text.now) × (length buffer.old ≡ 32) }
-    ensures { TokenEnds text.now buffer.new (quoted (drop at text.now)) result }
+fn quoted(text: &[u8], at: usize, kept: &mut Kept) -> Result<usize, Broken>
+    requires { (at ≤ length text.now) × (kept.old.size ≡ 0) }
+    ensures is { TokenEnds text.now kept.new.buffer.now (quoted (drop at text.now)) (ended kept.new.size result) }
+    ensures same_buffer { kept.new.buffer.ghost_name ≡ kept.old.buffer.ghost_name }
 {
-    let mut i = at;
-    let mut size = 0;
-    while i < text.len() {
+    let mut escaped = false;
+    for i in at..text.len() {
         let byte = text[i];
-        i += 1;
-        if byte == b'\'' {
-            return Ended {
-                fault: 0,
-                at: i,
-                size,
-            };
+        if escaped {
+            if !is_escaped(byte) {
+                return Err(Broken { at: i });
+            }
+            kept.put(byte);
+            escaped = false;
+        } else if byte == b'\'' {
+            return Ok(i + 1);
+        } else if byte == b'\\' {
+            escaped = true;
+        } else {
+            kept.put(byte);
         }
-        if byte != b'\\' {
-            size = put(buffer, size, byte);
-            continue;
-        }
-        let escaped = first(text, i);
-        if !is_escaped(escaped) {
-            return Ended {
-                fault: 20,
-                at: i,
-                size,
-            };
-        }
-        size = put(buffer, size, escaped);
-        i += 1;
     }
-    Ended {
-        fault: 20,
-        at: i,
-        size,
+    Err(Broken { at: text.len() })
+}
+
+// A word or a name in quotes, by its first byte.
+fn bare_or_quoted(text: &[u8], at: usize, kept: &mut Kept) -> Result<usize, Broken>
+    requires { (at ≤ length text.now) × (kept.old.size ≡ 0) }
+    ensures is { TokenEnds text.now kept.new.buffer.now (token (drop at text.now)) (ended kept.new.size result) }
+    ensures same_buffer { kept.new.buffer.ghost_name ≡ kept.old.buffer.ghost_name }
+{
+    if first(text, at) == b'\'' {
+        quoted(text, at + 1, kept)
+    } else {
+        Ok(bare(text, at, kept))
     }
 }
 
@@ -205,8 +137,10 @@ pub fn token(text: &[u8], at: usize, buffer: &mut [u8]) -> Ended
     requires { (at ≤ length text.now) × (length buffer.old ≡ 32) }
     ensures { TokenEnds text.now buffer.new (token (drop at text.now)) result }
 {
-    if first(text, at) == b'\'' {
-        return quoted(text, at + 1, buffer);
+    let mut kept = Kept { buffer, size: 0 };
+    let end = bare_or_quoted(text, at, &mut kept);
+    Ended {
+        size: kept.size,
+        end,
     }
-    bare(text, at, buffer)
 }

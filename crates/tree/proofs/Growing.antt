@@ -12,7 +12,8 @@ use lib.ListN.{length, get_or, take, drop, length-take, length-drop, length-appe
 use lib.Seq.{get_or-drop, get_or-take, take_all}
 use Rattle.deciding.specs.Deciding.{true_not_false}
 use Rattle.layout.specs.Layout.{node_map_words, nodes_limit, node_map_last, map_words, tree_words}
-use Rattle.bits.specs.Packed.{bits, sum, Skipped, First}
+use Rattle.std.specs.Prelude.{Option, Some, None, IsSome}
+use Rattle.bits.specs.Packed.{bits, sum, Skipped, First, FirstOf}
 use Rattle.bits.specs.Laws.{length_bits, get_bit, bit_low}
 use Rattle.shape.specs.Basics.{up_live}
 use Rattle.shape.specs.Shape.{Hook, Used, Up, Tree}
@@ -141,6 +142,10 @@ module _ (ws₀ ws : List ℕ) (l₀ l b : ℕ) (form : List ℕ) (i : ℕ) (g :
               (more (hook l b) g.grown lowest sorted f.under k);
         })
 
+  pub chain_some : (o : Option ℕ) → FirstOf 0 (bits (take node_map_words ws)) 0 o → IsSome o
+  chain_some None f = let n : ℕ = length (bits (take node_map_words ws)) in absurd (omega (arith, chain_low n f, long ws g.growing.size n f))
+  chain_some (Some n) f = refl
+
 -- ---- are there nodes enough?
 
 -- nothing from n on passes, so at most n pass
@@ -192,26 +197,10 @@ module _ (ws form : List ℕ) (s : Sound ws) (l i : ℕ) (d : Descended (shape w
     room = omega (arith, length-drop i form);
   })
 
-  pub plant_full : nodes_limit < tally (shape ws).used nodes_limit + (length form - i) → Planted ws ws form 0
-  plant_full h = record {
-    at = l;
-    depth = i;
-    descended = d;
-    full = λ e. (refl, h);
-    fits = λ n. absurd (n refl);
-    grown = λ n. absurd (n refl);
-  }
-
   pub plant_fits : (ws' : List ℕ) (r : ℕ) → 0 < length form → tally (shape ws).used nodes_limit + (length form - i) ≤ nodes_limit
-      → Grown (shape ws) l (reverse (take (length form - i) (drop i form))) (shape ws') r → Planted ws ws' form r
-  plant_fits ws' r pos h g = record {
-    at = l;
-    depth = i;
-    descended = d;
-    full = λ e. absurd (no_root r e g);
-    fits = λ n. h;
-    grown = λ n. g';
-  }
+      → Grown (shape ws) l (reverse (take (length form - i) (drop i form))) (shape ws') r → (¬ (r ≡ 0)) × Planted ws ws' form r
+  plant_fits ws' r pos h g =
+      (λ e. no_root r e g, record { at = l; depth = i; descended = d; full = λ e. absurd (no_root r e g); fits = λ n. h; grown = λ n. g' })
     where
       g' : Grown (shape ws) l (reverse (drop i form)) (shape ws') r
       g' = subst (λ (z : List ℕ). Grown (shape ws) l (reverse z) (shape ws') r) rest g

@@ -4,8 +4,6 @@ use mathlib.Core.List.{List, ◌++◌}
 use Prim.Native.Nat.{ℕ, zero, suc, ◌+◌, ◌-◌, ◌*◌, ◌≤◌, ◌<◌}
 use native.Mathlib.Omega.{arith}
 use native.Mathlib.Decide.{ℕ_discrete}
-use mir.Syntax.{w64}
-use mir.Val.{Fits}
 use lib.Dec.{eqb}
 use lib.ListN.{length, get_or, set, take, drop}
 use lib.Seq.{get_or-set_same, get_or-set_other, take-set-le, take_at, get_or-append-add, get_or-drop}
@@ -20,9 +18,6 @@ use Rattle.links.specs.Words.{cell_of, parent_of, first_of, next_of, word, shape
 use Rattle.links.specs.Limits.{map_long}
 
 -- ---- numbers and hooks that fit
-
-pub next_fits : {n : ℕ} → n < last_link → Fits w64 (n + 1)
-next_fits h = omega arith
 
 -- the word of a node, as the code reads it
 pub node_word : (ws : List ℕ) (n : ℕ) → get_or ws (nodes_at + n) 0 ≡ word ws (suc n)
@@ -110,14 +105,6 @@ module _ (ws : List ℕ) (size : length ws ≡ tree_words) (p b : ℕ) where
       go zero e = absurd (h e)
       go (suc k) e = put_after ws size b hb w k x e n
 
-pub gets_first : (ws : List ℕ) (p b r : ℕ) → b ≡ 0 → r ≡ first_of (word ws p) → to (shape ws) (hook p b) ≡ r
-gets_first ws p zero r e h = sym h
-gets_first ws p (suc b) r e h = absurd (omega arith)
-
-pub gets_next : (ws : List ℕ) (p b r : ℕ) → ¬ (b ≡ 0) → r ≡ next_of (word ws b) → to (shape ws) (hook p b) ≡ r
-gets_next ws p zero r e h = absurd (e refl)
-gets_next ws p (suc b) r e h = sym h
-
 pub writes : (ws : List ℕ) → length ws ≡ tree_words → (n : ℕ) → n < last_link → (w c p x : ℕ) → Node w c p 0 x → Writes (shape ws) (shape (set ws (nodes_at + n) w)) n c p x
 writes ws size n hn w c p x d =
     let e : links_at + suc n ≡ nodes_at + n = omega arith in
@@ -154,8 +141,3 @@ flips ws map n v size hn same e = record {
     hooks : (z : Hook) → to (shape (map ++ drop map_words ws)) z ≡ to (shape ws) z
     hooks (child l) = ap first_of (word_is l)
     hooks (after y) = ap next_of (word_is (suc y))
-
--- a link has 16 bits
-pub link_fits : (ws : List ℕ) (p b r : ℕ) → to (shape ws) (hook p b) ≡ r → r < 65536
-link_fits ws p zero r e = omega arith
-link_fits ws p (suc k) r e = omega arith

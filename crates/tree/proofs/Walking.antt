@@ -13,8 +13,8 @@ use Rattle.shape.specs.Shape.{Shape, after, Used, Valid, to, owner, floor, Up, t
 use Rattle.shape.specs.Order.{ahead}
 use Rattle.shape.specs.Change.{Sorted}
 use Rattle.links.specs.Words.{cell_of, next_of, word, shape, hook}
-use Rattle.tree.specs.Promises.{Sound, Found, Absent, Descended}
-use Rattle.tree.specs.Needs.{ChildWith, Next}
+use Rattle.tree.specs.Promises.{Sound, Found, Absent}
+use Rattle.tree.specs.Needs.{IsChild}
 use Rattle.links.specs.Limits.{live_low, hook_low}
 use Rattle.links.specs.Siblings.{Before, Ready, link_low}
 
@@ -84,12 +84,6 @@ pub record Descending (m : Shape) (form : List ℕ) (l i : ℕ) : Type 0 where
 pub descend_start : (m : Shape) (form : List ℕ) → Descending m form 0 0
 descend_start m form = record { within = omega arith; at = top }
 
-pub descend_all : {m : Shape} {form : List ℕ} {l i : ℕ} → length form ≤ i → Descending m form l i → Descended m form l i
-descend_all h d = record { within = d.within; at = d.at; absent = λ q. absurd (omega arith) }
-
-pub next_none : (m : Shape) (form : List ℕ) (l i b : ℕ) → length form ≤ i → Next m form l i b
-next_none m form l i b h q = absurd (omega arith)
-
 pub take_next : (form : List ℕ) (i : ℕ) → i < length form → reverse (take (suc i) form) ≡ get_or form i 0 ∷ reverse (take i form)
 take_next form i h = ap reverse (take-suc form i 0 h) ∙ reverse-append (take i form) (get_or form i 0 ∷ [])
 
@@ -102,38 +96,31 @@ module _ (ws : List ℕ) (p b c x : ℕ) (r : Ready ws p) (f : Found (shape ws) 
     next_low = link_low ws r.size r.tree (hook p b) f.valid x e
 
     -- the child that would have the cell is the one that comes next
-    no_child : ((k : ℕ) → x ≡ suc k → ¬ ((shape ws).cell k ≡ c)) → ChildWith (shape ws) p c 0
-    no_child h = record { none = λ q n u d g. h n (sym e ∙ found_child r.tree f n u d g) g; some = λ k q. absurd (omega arith) }
+    no_child : ((k : ℕ) → x ≡ suc k → ¬ ((shape ws).cell k ≡ c)) → Absent (shape ws) p c
+    no_child h n u d g = h n (sym e ∙ found_child r.tree f n u d g) g
 
-    pub none_comes : x ≡ 0 → ChildWith (shape ws) p c 0
+    pub none_comes : x ≡ 0 → Absent (shape ws) p c
     none_comes z = no_child (λ k q. absurd (omega arith))
 
-    pub other_comes : (v : ℕ) → v ≡ cell_of (word ws x) → ¬ (v ≡ c) → ChildWith (shape ws) p c 0
+    pub other_comes : (v : ℕ) → v ≡ cell_of (word ws x) → ¬ (v ≡ c) → Absent (shape ws) p c
     other_comes v h n = no_child (λ k q g. n (h ∙ ap (λ (y : ℕ). cell_of (word ws y)) q ∙ g))
 
-    pub it_comes : (v : ℕ) → ¬ (x ≡ 0) → v ≡ cell_of (word ws x) → v ≡ c → ChildWith (shape ws) p c x
-    it_comes v n h q = record {
-      none = λ z. absurd (n z);
-      some = λ k z.
-          let g = r.tree.goes (hook p b) f.valid (e ∙ z) in
-          (g.used, g.under ∙ f.under, sym (ap (λ (y : ℕ). cell_of (word ws y)) z) ∙ sym h ∙ q);
-    }
+    pub it_comes : (v : ℕ) → ¬ (x ≡ 0) → v ≡ cell_of (word ws x) → v ≡ c → IsChild (shape ws) p c x
+    it_comes v n h q = go x refl
+      where
+        go : (y : ℕ) → x ≡ y → IsChild (shape ws) p c x
+        go zero z = absurd (n z)
+        go (suc k) z =
+            let g = r.tree.goes (hook p b) f.valid (e ∙ z) in
+            record { node = k; leads = z; used = g.used; parent = g.under ∙ f.under; cell = sym (ap (λ (y : ℕ). cell_of (word ws y)) z) ∙ sym h ∙ q }
 
 module _ (ws form : List ℕ) (s : Sound ws) (l i : ℕ) (d : Descending (shape ws) form l i) where
   pub descend_ready : Ready ws l
   descend_ready = record { size = s.size; tree = s.tree; live = up_live d.at }
 
   module _ (hi : i < length form) (c : ℕ) (ec : c ≡ get_or form i 0) where
-    pub descend_next : (b : ℕ) → Found (shape ws) l b c → Next (shape ws) form l i b
-    descend_next b f q = subst (λ (z : ℕ). Found (shape ws) l b z) ec f
-
-    pub descend_stop : (x : ℕ) → x ≡ 0 → ChildWith (shape ws) l c x → Descended (shape ws) form l i
-    descend_stop x z w = record { within = d.within; at = d.at; absent = λ q. subst (Absent (shape ws) l) ec (w.none z) }
-
-    pub descend_on : (x : ℕ) → ¬ (x ≡ 0) → ChildWith (shape ws) l c x → Descending (shape ws) form x (i + 1)
-    descend_on zero n w = absurd (n refl)
-    descend_on (suc k) n w =
-        let h = w.some k refl in
-        let above = subst (λ (y : ℕ). Up (shape ws) y (reverse (take i form))) (sym h.1) d.at in
-        let up = down h.0 (h.2 ∙ ec) above in
-        rw (add-one i) (record { within = hi; at = subst (λ (r : List ℕ). Up (shape ws) (suc k) r) (sym (take_next form i hi)) up })
+    pub descend_on : (x : ℕ) → IsChild (shape ws) l c x → Descending (shape ws) form x (i + 1)
+    descend_on x w =
+        let above = subst (λ (y : ℕ). Up (shape ws) y (reverse (take i form))) (sym w.parent) d.at in
+        let up = down w.used (w.cell ∙ ec) above in
+        rw (add-one i, w.leads) (record { within = hi; at = subst (λ (r : List ℕ). Up (shape ws) (suc w.node) r) (sym (take_next form i hi)) up })

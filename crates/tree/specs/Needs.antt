@@ -1,5 +1,5 @@
 -- What the inner functions ask for, and promise to each other
-use Rattle.std.specs.Prelude.{◌≡◌, List, false, ℕ, suc, ◌+◌, ◌≤◌, ◌<◌, length, get_or}
+use Rattle.std.specs.Prelude.{◌≡◌, List, Option, Some, None, false, ℕ, suc, ◌+◌, ◌≤◌, ◌<◌, length, get_or}
 use Rattle.layout.specs.Layout.{nodes_limit, last_link, tree_words}
 use Rattle.shape.specs.Shape.{Shape, Hook, Used, Live, Valid, Tree}
 use Rattle.shape.specs.Shape as shapes
@@ -23,10 +23,18 @@ pub record Room (ws : List ℕ) (p b n c : ℕ) : Type 0 where
 abbrev pub Next : Shape → List ℕ → ℕ → ℕ → ℕ → Type 0
 Next m form l i b = i < length form → Found m l b (get_or form i 0)
 
+-- the link l leads to a child of p with the cell c
+pub record IsChild (m : Shape) (p c l : ℕ) : Type 0 where
+  pub node : ℕ
+  pub leads : l ≡ suc node
+  pub used : Used m node
+  pub parent : m.parent node ≡ p
+  pub cell : m.cell node ≡ c
+
 -- the child of p with the cell c, or that there is none
-pub record ChildWith (m : Shape) (p c r : ℕ) : Type 0 where
-  pub none : r ≡ 0 → Absent m p c
-  pub some : (k : ℕ) → r ≡ suc k → Used m k × (m.parent k ≡ p) × (m.cell k ≡ c)
+abbrev pub ChildWith : Shape → ℕ → ℕ → Option ℕ → Type 0
+ChildWith m p c None = Absent m p c
+ChildWith m p c (Some l) = IsChild m p c l
 
 -- the cells of the form from i on are to grow under l, the first of them behind b, and there is room for them
 pub record Growing (ws : List ℕ) (l b : ℕ) (form : List ℕ) (i : ℕ) : Type 0 where

@@ -1,5 +1,5 @@
 -- What the functions promise
-use Rattle.std.specs.Prelude.{◌≡◌, List, reverse, true, false, ℕ, suc, ◌+◌, ◌-◌, ◌≤◌, ◌<◌, length, get_or, take, drop}
+use Rattle.std.specs.Prelude.{◌≡◌, List, Option, Some, None, reverse, true, false, ℕ, suc, ◌+◌, ◌-◌, ◌≤◌, ◌<◌, length, get_or, take, drop}
 use Rattle.layout.specs.Layout.{rule_numbers, nodes_limit, rules_limit, tree_words}
 use Rattle.shape.specs.Shape.{Shape, Hook, Used, Live, Valid, to, owner, floor, Up, Tree}
 use Rattle.shape.specs.Change.{Grown, Links, Sorted}
@@ -40,6 +40,11 @@ pub record Planted (ws ws' form : List ℕ) (link : ℕ) : Type 0 where
   pub full : link ≡ 0 → (ws' ≡ ws) × (nodes_limit < tally (shape ws).used nodes_limit + (length form - depth))
   pub fits : ¬ (link ≡ 0) → tally (shape ws).used nodes_limit + (length form - depth) ≤ nodes_limit
   pub grown : ¬ (link ≡ 0) → Grown (shape ws) at (reverse (drop depth form)) (shape ws') link
+
+-- the same of a link that may be none
+abbrev pub PlantedOf : (ws ws' form : List ℕ) → Option ℕ → Type 0
+PlantedOf ws ws' form None = Planted ws ws' form 0
+PlantedOf ws ws' form (Some link) = (¬ (link ≡ 0)) × Planted ws ws' form link
 
 -- A rule's place r is free, and no rule below the link p has its number
 pub record Hangable (ws : List ℕ) (p r number : ℕ) : Type 0 where

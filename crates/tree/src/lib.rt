@@ -17,90 +17,95 @@ ghost use Rattle.shape.specs.Tally.{tally};
 ghost use Rattle.shape.specs.Change.{Links, Grown, Trimmed};
 ghost use Rattle.shape.specs.Effects.{Leads};
 ghost use Rattle.links.specs.Words.{cell_of, parent_of, first_of, next_of, Node, shape, hook};
-ghost use Rattle.tree.specs.Promises.{Sound, Found, Descended, Planted, Hangable, Hung};
+ghost use Rattle.tree.specs.Promises.{Sound, Found, Descended, PlantedOf, Hangable, Hung};
 ghost use Rattle.tree.specs.Needs.{ChildWith, Room, Next, Growing, Childless, Unlinked};
 ghost use Rattle.links.specs.Siblings.{Before, Ready};
 
-fn wide(x: u16) -> u64
-    ensures { result ≡ x }
-{
-    x as u64
+// ---- hooks
+
+// A place for a link among the children of `parent`: behind the sibling `behind`, or before all where that is 0, as in the links of
+// the memory.
+#[derive(Clone, Copy)]
+struct Hook {
+    parent: usize,
+    behind: usize,
 }
 
-// ---- hooks: among the children of p the one after the sibling b, or the first where b is 0
+// One reads the link and one stores it; what they share is which word has it, one test.
+impl Hook {
+    fn get(self, m: &[u64]) -> usize
+        requires m_len { length m.now ≡ tree_words }
+        requires parent_le_last_link { self.parent ≤ last_link }
+        requires behind_le_last_link { self.behind ≤ last_link }
+        ensures { to (shape m.now) (hook self.parent self.behind) ≡ result }
+    {
+        if self.behind == 0 {
+            links::first_of(m[layout::LINKS_AT + self.parent]) as usize
+        } else {
+            links::next_of(m[layout::LINKS_AT + self.behind]) as usize
+        }
+    }
 
-fn get_link(m: &[u64], p: usize, b: usize) -> usize
-    requires m_len { length m.now ≡ tree_words }
-    requires p_le_last_link { p ≤ last_link }
-    requires b_le_last_link { b ≤ last_link }
-    ensures { to (shape m.now) (hook p b) ≡ result }
-{
-    if b == 0 {
-        links::first_of(m[layout::LINKS_AT + p]) as usize
-    } else {
-        links::next_of(m[layout::LINKS_AT + b]) as usize
+    fn put(self, m: &mut [u64], x: u64)
+        requires m_len { length m.old ≡ tree_words }
+        requires parent_le_last_link { self.parent ≤ last_link }
+        requires behind_le_last_link { self.behind ≤ last_link }
+        requires x_bound { x < 65536 }
+        ensures { Leads (shape m.old) (shape m.new) (hook self.parent self.behind) x }
+    {
+        if self.behind == 0 {
+            let at = layout::LINKS_AT + self.parent;
+            m[at] = links::with_first(m[at], x);
+        } else {
+            let at = layout::LINKS_AT + self.behind;
+            m[at] = links::with_next(m[at], x);
+        }
     }
 }
 
-fn put_link(m: &mut [u64], p: usize, b: usize, x: u64)
-    requires m_len { length m.old ≡ tree_words }
-    requires p_le_last_link { p ≤ last_link }
-    requires b_le_last_link { b ≤ last_link }
-    requires x_bound { x < 65536 }
-    ensures { Leads (shape m.old) (shape m.new) (hook p b) x }
+// The hook of the cell c among the children of a node. It is looked for from a hook on that is not behind it.
+fn find(m: &[u64], from: Hook, c: u64) -> Hook
+    requires ready { Ready m.now from.parent }
+    requires before { Before (shape m.now) from.parent from.behind c }
+    ensures parent { result.parent ≡ from.parent }
+    ensures found { Found (shape m.now) from.parent result.behind c }
 {
-    if b == 0 {
-        m[layout::LINKS_AT + p] = links::with_first(m[layout::LINKS_AT + p], x);
-    } else {
-        m[layout::LINKS_AT + b] = links::with_next(m[layout::LINKS_AT + b], x);
-    }
-}
-
-// The child of p behind which the cell c has its hook, or 0. It is looked for from the child `from` on, whose cell is below c, or from
-// the first where that is 0.
-fn find(m: &[u64], p: usize, from: usize, c: u64) -> usize
-    requires ready { Ready m.now p }
-    requires before { Before (shape m.now) p from c }
-    ensures { Found (shape m.now) p result c }
-{
-    let mut b = from;
-    let mut x = get_link(m, p, from);
+    let mut at = from;
+    let mut x = at.get(m);
+    // By links, not by an index.
     while x != 0 {
         let w = m[layout::LINKS_AT + x];
         if links::cell_of(w) >= c {
-            return b;
+            return at;
         }
-        b = x;
+        at.behind = x;
         x = links::next_of(w) as usize;
     }
-    b
+    at
 }
 
 // ---- adding
 
 // How far the nodes of a form exist: the link of the last, and how many there are; and the child of the last behind which the
-// next cell has its hook, or 0, so that no one looks for it again.
-#[derive(Drop)]
+// next cell has its hook, or 0 as in the links, so that no one looks for it again.
+#[derive(Clone, Copy, Debug, PartialEq, Eq)]
 pub struct Down {
     pub link: usize,
     pub depth: usize,
     pub behind: usize,
 }
 
-// The child of p behind b, if it has the cell c; else 0.
-fn child_with(m: &[u64], p: usize, b: usize, c: u64) -> usize
-    requires ready { Ready m.now p }
-    requires found { Found (shape m.now) p b c }
-    ensures { ChildWith (shape m.now) p c result }
+// The child at the hook of the cell c, if it has that cell.
+fn child_with(m: &[u64], at: Hook, c: u64) -> Option<usize>
+    requires ready { Ready m.now at.parent }
+    requires found { Found (shape m.now) at.parent at.behind c }
+    ensures { ChildWith (shape m.now) at.parent c result }
 {
-    let x = get_link(m, p, b);
-    if x == 0 {
-        return 0;
+    let x = at.get(m);
+    if x == 0 || links::cell_of(m[layout::LINKS_AT + x]) != c {
+        return None;
     }
-    if links::cell_of(m[layout::LINKS_AT + x]) == c {
-        return x;
-    }
-    0
+    Some(x)
 }
 
 pub fn descend(m: &[u64], signs: &[u64], form: &[u16]) -> Down
@@ -109,60 +114,59 @@ pub fn descend(m: &[u64], signs: &[u64], form: &[u16]) -> Down
     ensures descended { Descended (shape m.now) form.now result.link result.depth }
     ensures next { Next (shape m.now) form.now result.link result.depth result.behind }
 {
-    let mut l: usize = 0;
-    let mut i: usize = 0;
-    while i < form.len() {
-        let c = wide(form[i]);
-        let b = find(m, l, links::signs::before(m, signs, l, c), c);
-        let x = child_with(m, l, b, c);
-        if x == 0 {
+    let mut link: usize = 0;
+    for (depth, cell) in form.iter().enumerate() {
+        let c = u64::from(*cell);
+        let from = Hook {
+            parent: link,
+            behind: links::signs::before(m, signs, link, c),
+        };
+        let hook = find(m, from, c);
+        let Some(child) = child_with(m, hook, c) else {
             return Down {
-                link: l,
-                depth: i,
-                behind: b,
+                link,
+                depth,
+                behind: hook.behind,
             };
-        }
-        l = x;
-        i += 1;
+        };
+        link = child;
     }
     Down {
-        link: l,
-        depth: i,
+        link,
+        depth: form.len(),
         behind: 0,
     }
 }
 
-// The free node n comes in with the cell c at a hook of p.
-fn link(m: &mut [u64], p: usize, b: usize, n: usize, c: u64)
-    requires { Room m.old p b n c }
-    ensures { Links (shape m.old) (shape m.new) (hook p b) c n }
+// The free node n comes in with the cell c at a hook.
+fn link(m: &mut [u64], at: Hook, n: usize, c: u64)
+    requires { Room m.old at.parent at.behind n c }
+    ensures { Links (shape m.old) (shape m.new) (hook at.parent at.behind) c n }
 {
-    let x = get_link(m, p, b);
-    m[layout::NODES_AT + n] = links::pack(c, p as u64, 0, x as u64);
-    put_link(m, p, b, n as u64 + 1);
+    let x = at.get(m);
+    m[layout::NODES_AT + n] = links::pack(c, at.parent as u64, 0, x as u64);
+    at.put(m, n as u64 + 1);
     bits::mark(&mut m[0..layout::MAP_WORDS], n);
 }
 
-// A chain of new nodes with the cells of a form, the first under l, behind its child b: the link of the last. A new node has no
-// child, so the hook of the next one is known; and the words of the map before `full` have no free node.
-fn grow(m: &mut [u64], l: usize, b: usize, form: &[u16]) -> usize
-    requires { Growing m.old l b form.now 0 }
-    ensures { Grown (shape m.old) l (reverse form.now) (shape m.new) result }
+// A chain of new nodes with the cells of a form, the first at a hook: the link of the last. A new node has no child, so the hook of
+// the next one is known; and the words of the map before `full` have no free node.
+fn grow(m: &mut [u64], from: Hook, form: &[u16]) -> usize
+    requires { Growing m.old from.parent from.behind form.now 0 }
+    ensures { Grown (shape m.old) from.parent (reverse form.now) (shape m.new) result }
 {
-    let mut at = l;
-    let mut behind = b;
+    let mut at = from;
     let mut full: usize = 0;
-    let mut i: usize = 0;
-    while i < form.len() {
-        let c = wide(form[i]);
-        let n = bits::lowest_free_from(&m[0..layout::NODE_MAP_WORDS], full);
-        link(m, at, behind, n, c);
-        at = n + 1;
-        behind = 0;
+    for cell in form {
+        let n = bits::lowest_free_from(&m[0..layout::NODE_MAP_WORDS], full).unwrap();
+        link(m, at, n, u64::from(*cell));
+        at = Hook {
+            parent: n + 1,
+            behind: 0,
+        };
         full = n / 64;
-        i += 1;
     }
-    at
+    at.parent
 }
 
 // Are as many nodes free? Always the lowest free node is taken, so the last word of the map is nearly always 0: then 64 are, and
@@ -172,33 +176,28 @@ fn has_nodes(m: &[u64], missing: usize) -> bool
     ensures yes { result ≡ true → tally (shape m.now).used nodes_limit + missing ≤ nodes_limit }
     ensures no { result ≡ false → nodes_limit < tally (shape m.now).used nodes_limit + missing }
 {
-    if m[layout::NODE_MAP_LAST] == 0 {
-        return true;
-    }
-    let held = bits::count(&m[0..layout::NODE_MAP_WORDS]);
-    if held + missing > layout::NODES_LIMIT {
-        return false;
-    }
-    true
+    m[layout::NODE_MAP_LAST] == 0
+        || bits::count(&m[0..layout::NODE_MAP_WORDS]) + missing <= layout::NODES_LIMIT
 }
 
-// The nodes of a form that are missing are linked in, from where `descend` ended: the link of its last node, or 0 where there would
-// be more than 4,096 nodes.
-pub fn plant(m: &mut [u64], form: &[u16], d: Down) -> usize
+// The nodes of a form that are missing are linked in, from where `descend` ended: the link of its last node, or none where there
+// would be more than 4,096 nodes.
+pub fn plant(m: &mut [u64], form: &[u16], d: Down) -> Option<usize>
     requires sound { Sound m.old }
     requires form_nonzero { 0 < length form.now }
     requires form_len_bound { length form.now ≤ 32 }
     requires descended { Descended (shape m.old) form.now d.link d.depth }
     requires next { Next (shape m.old) form.now d.link d.depth d.behind }
-    ensures { Planted m.old m.new form.now result }
+    ensures { PlantedOf m.old m.new form.now result }
 {
-    let at = d.link;
-    let i = d.depth;
-    let b = d.behind;
-    if !has_nodes(m, form.len() - i) {
-        return 0;
+    if !has_nodes(m, form.len() - d.depth) {
+        return None;
     }
-    grow(m, at, b, &form[i..])
+    let from = Hook {
+        parent: d.link,
+        behind: d.behind,
+    };
+    Some(grow(m, from, &form[d.depth..]))
 }
 
 // The rule r, with its number, hangs below the last node of its form, whose link is p.
@@ -206,8 +205,12 @@ pub fn hang(m: &mut [u64], p: usize, r: usize, number: u64)
     requires { Hangable m.old p r number }
     ensures { Hung (shape m.old) (shape m.new) p r number }
 {
-    let b = find(m, p, 0, number);
-    link(m, p, b, layout::NODES_LIMIT + r, number);
+    let first = Hook {
+        parent: p,
+        behind: 0,
+    };
+    let at = find(m, first, number);
+    link(m, at, layout::NODES_LIMIT + r, number);
 }
 
 // ---- removing
@@ -218,9 +221,12 @@ fn unlink(m: &mut [u64], n: usize)
     ensures { Unlinked (shape m.old) (shape m.new) n }
 {
     let w = m[layout::NODES_AT + n];
-    let p = links::parent_of(w) as usize;
-    let b = find(m, p, 0, links::cell_of(w));
-    put_link(m, p, b, links::next_of(w));
+    let first = Hook {
+        parent: links::parent_of(w) as usize,
+        behind: 0,
+    };
+    let at = find(m, first, links::cell_of(w));
+    at.put(m, links::next_of(w));
     bits::clear(&mut m[0..layout::MAP_WORDS], n);
 }
 
@@ -231,6 +237,7 @@ pub fn trim(m: &mut [u64], last: usize)
     ensures { Trimmed (shape m.old) (suc last) (shape m.new) }
 {
     let mut l = last + 1;
+    // By links, not by an index: up, as far as the root, which is 0.
     while l != 0 {
         let w = m[layout::LINKS_AT + l];
         if links::first_of(w) != 0 {

@@ -1,5 +1,5 @@
 -- What is typed is a term: the cells of a text that is read are one whole term, so a batch never refuses them with 3, 4 or 5.
-use Rattle.std.specs.Prelude.{◌≡◌, Bool, ℕ, zero, suc, ◌+◌, ◌-◌, ◌*◌, ◌/◌, ◌≤◌, ◌<◌, replicate, eqb, ltb}
+use Rattle.std.specs.Prelude.{◌≡◌, Bool, ℕ, zero, suc, ◌+◌, ◌-◌, ◌*◌, ◌/◌, ◌≤◌, ◌<◌, replicate, eqb, ltb, Ok, Result}
 use Rattle.std.proofs.Math.Path.{refl, ap}
 use Rattle.std.proofs.Common.{sym, subst, ◌∙◌, eqb-true, ltb-true, ltb-false, lt-ltb, le-ltb, length-append}
 use mathlib.Core.List.{List, [], ◌∷◌, ◌++◌, append-nil}
@@ -11,10 +11,9 @@ use Rattle.deciding.specs.Deciding.{pick}
 use Rattle.names.specs.Name.{passes_as_name}
 use Rattle.names.specs.Table.{slot_in}
 use Rattle.names.specs.Cases.{slot_within}
-use Rattle.term.specs.Reading.{takes, go_on, read_from, read_term}
-use Rattle.term.specs.declared.reading.Taken.{Taken}
-use Rattle.term.specs.declared.reading.Taken.TheVariants.{Wants}
-use Rattle.term.specs.declared.reading.Reading.TheVariants.{Whole}
+use Rattle.term.specs.declared.reading.Fault.{Fault}
+use Rattle.term.specs.declared.reading.Wants.{Wants}
+use Rattle.term.specs.Reading.{calls_for, takes, go_on, read_from, read_term}
 use Rattle.tokens.specs.Tokens.{skip}
 use Rattle.text.specs.Term.{Token, variable, name, shape_of}
 use Rattle.text.specs.Naming.{entered, numbered, number_of, TokenCells, naming}
@@ -40,7 +39,7 @@ entered_long words word = go (ltb (slot_in words word) (length words)) refl
 
 -- ---- one token
 
-takes_variable : (known s : ℕ) → s < 16 → s ≤ known → (c : Bool) → ltb s known ≡ c → takes known (32768 + s) ≡ Wants 0 (pick c known (s + 1))
+takes_variable : (known s : ℕ) → s < 16 → s ≤ known → (c : Bool) → ltb s known ≡ c → takes known (32768 + s) ≡ calls_for 0 (pick c known (s + 1))
 unfolding takes
 takes_variable known s l h true e =
     let q = ltb-true s known e in
@@ -50,11 +49,11 @@ takes_variable known s l h false e =
     let z : 32768 + s - 32768 ≡ s = omega arith in
     rw (le-ltb (32768 + s) 32768 (omega arith), lt-leb 36864 (32768 + s) (omega arith), z, le-ltb 15 s (omega arith), le-ltb known s h, e)
 
-takes_name : (known arity s : ℕ) → arity ≤ 7 → s < 4096 → takes known (arity * 4096 + s) ≡ Wants arity known
+takes_name : (known arity s : ℕ) → arity ≤ 7 → s < 4096 → takes known (arity * 4096 + s) ≡ calls_for arity known
 unfolding takes
 takes_name known arity s a l =
     let z : (arity * 4096 + s) / 4096 ≡ arity = omega arith in
-    rw (lt-ltb (arity * 4096 + s) 32768 (omega arith)) (ap (λ (n : ℕ). Wants n known) z)
+    rw (lt-ltb (arity * 4096 + s) 32768 (omega arith)) (ap (λ (n : ℕ). calls_for n known) z)
 
 entered_count : (words : List (List ℕ)) (word : List ℕ)
     → length (entered words word) ≡ pick (ltb (slot_in words word) (length words)) (length words) (slot_in words word + 1)
@@ -67,7 +66,7 @@ entered_count words word = go (ltb (slot_in words word) (length words)) refl
 
 -- its cell is taken for what it is, with as many variables known afterwards as its list has
 pub record Taking (names variables : List (List ℕ)) (token : Token) : Type 0 where
-  pub takes_is : takes (length variables) (shape_of token + (number_of names variables token).number) ≡ Wants (arity_of token) (length (number_of names variables token).variables)
+  pub takes_is : takes (length variables) (shape_of token + (number_of names variables token).number) ≡ calls_for (arity_of token) (length (number_of names variables token).variables)
   pub few : length (number_of names variables token).variables ≤ 16
   pub grown : length names ≤ length (number_of names variables token).names
 
@@ -88,7 +87,7 @@ module _ (names variables : List (List ℕ)) (few : length variables ≤ 16) whe
           let w = slot_within variables word in
           let n = entered_count variables word in
           record {
-            takes_is = rw q (takes_variable (length variables) (slot_in variables word) l w (ltb (slot_in variables word) (length variables)) refl ∙ ap (Wants 0) (sym n));
+            takes_is = rw q (takes_variable (length variables) (slot_in variables word) l w (ltb (slot_in variables word) (length variables)) refl ∙ ap (calls_for 0) (sym n));
             few = rw q (subst (λ (k : ℕ). k ≤ 16) (sym n) (small (ltb (slot_in variables word) (length variables)) l));
             grown = rw q (omega arith);
           }
@@ -153,12 +152,12 @@ rest (a_name {n} a t) = record { others = n; is = refl; terms = t }
 no_others : {w : ℕ} → TermRow w [] → w ≡ 0
 no_others none = refl
 
-read_one : (left w known place c a k : ℕ) (cells : List ℕ) → takes known c ≡ Wants a k
+read_one : (left w known place c a k : ℕ) (cells : List ℕ) → takes known c ≡ calls_for a k
     → read_from (suc left) (suc w) known place (c ∷ cells) ≡ read_from left (a + w) k (suc place) cells
 unfolding read_from
-read_one left w known place c a k cells e = ap (λ (t : Taken). go_on t place (λ arity met. read_from left (arity + w) met (suc place) cells)) e
+read_one left w known place c a k cells e = ap (λ (t : Result Wants Fault). go_on t place (λ arity met. read_from left (arity + w) met (suc place) cells)) e
 
-read_none : (left known place : ℕ) (cells : List ℕ) → read_from left 0 known place cells ≡ Whole place
+read_none : (left known place : ℕ) (cells : List ℕ) → read_from left 0 known place cells ≡ Ok place
 unfolding read_from
 read_none zero known place cells = refl
 read_none (suc left) known place cells = refl
@@ -166,11 +165,11 @@ read_none (suc left) known place cells = refl
 pub reads : (tokens : List Token) (w : ℕ) → TermRow w tokens → (names variables : List (List ℕ)) → length variables ≤ 16
     → (naming names variables tokens).refusal ≡ 0 → length (naming names variables tokens).names ≤ 4096
     → (left place : ℕ) (behind : List ℕ) → length tokens ≤ left
-    → read_from left w (length variables) place ((naming names variables tokens).cells ++ behind) ≡ Whole (place + length tokens)
+    → read_from left w (length variables) place ((naming names variables tokens).cells ++ behind) ≡ Ok (place + length tokens)
 unfolding naming
 reads [] w t names variables few e most left place behind l =
     let z : place ≡ place + 0 = omega arith in
-    rw (no_others t) (read_none left (length variables) place behind ∙ ap Whole z)
+    rw (no_others t) (read_none left (length variables) place behind ∙ ap Ok z)
 reads (token ∷ tokens) w t names variables few e most zero place behind l = absurd (omega arith)
 reads (token ∷ tokens) w t names variables few e most (suc left) place behind l =
     let z = first_taken names variables token tokens e in
@@ -185,7 +184,7 @@ reads (token ∷ tokens) w t names variables few e most (suc left) place behind 
     rw (q, r.is)
     (read_one left r.others (length variables) place (shape_of token + n.number) (arity_of token) (length n.variables)
     ((naming n.names n.variables tokens).cells ++ behind) k.takes_is
-    ∙ reads tokens (arity_of token + r.others) r.terms n.names n.variables k.few e' m' left (suc place) behind (omega arith) ∙ ap Whole p)
+    ∙ reads tokens (arity_of token + r.others) r.terms n.names n.variables k.few e' m' left (suc place) behind (omega arith) ∙ ap Ok p)
 
 -- ---- a text that is read
 
@@ -203,7 +202,7 @@ module _ (names : List (List ℕ)) (free : ℕ) (text : List ℕ) (most : length
   one_term e = subst (TermRow 1) (append-nil (tokens_of text)) ((term_more 66 0 32 (skip text) (omega arith) e).2 0 [] none)
 
   whole_term : AllTaken names text → (term_of text).fault ≡ 0 → length (names_with names text) ≤ length names + free
-      → read_term (whole names text).cells ≡ Whole (whole names text).size
+      → read_term (whole names text).cells ≡ Ok (whole names text).size
   unfolding read_term
   whole_term a e l =
       let z = none_refused a in
@@ -211,13 +210,13 @@ module _ (names : List (List ℕ)) (free : ℕ) (text : List ℕ) (most : length
       let long = (term_more 66 0 32 (skip text) (omega arith) e).1 in
       let cells = (naming names [] (tokens_of text)).cells in
       let p : 0 + length (tokens_of text) ≡ length cells = omega (arith, n) in
-      reads (tokens_of text) 1 (one_term e) names [] (omega arith) z (omega arith) 32 0 (replicate (32 - length cells) 0) long ∙ ap Whole p
+      reads (tokens_of text) 1 (one_term e) names [] (omega arith) z (omega arith) 32 0 (replicate (32 - length cells) 0) long ∙ ap Ok p
 
   -- Its cells are one whole term of its size.
-  pub typed_whole : (read_text names free text).refusal ≡ 0 → read_term (read_text names free text).cells ≡ Whole (read_text names free text).size
+  pub typed_whole : (read_text names free text).refusal ≡ 0 → read_term (read_text names free text).cells ≡ Ok (read_text names free text).size
   typed_whole e = go (because names free text) e
     where
-      go : {a : Answer} → Because names free text a → a.refusal ≡ 0 → read_term a.cells ≡ Whole a.size
+      go : {a : Answer} → Because names free text a → a.refusal ≡ 0 → read_term a.cells ≡ Ok a.size
       go (a_token r) z = let n = (token_number r).0 in absurd (omega arith)
       go (a_fault t f n) z = absurd (n z)
       go (no_room t f l) z = absurd (omega arith)

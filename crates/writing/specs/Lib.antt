@@ -1,3 +1,4 @@
--- What it means that bytes are put into lent text; `Putting` has its laws.
+-- What it means that bytes are put into lent text; `Putting` and `Texts` have the laws.
 pub mod Writing
 pub mod Putting
+pub mod Texts

@@ -25,6 +25,10 @@ unfolding puts
 puts_append [] b s = refl
 puts_append (x ∷ a) b s = puts_append a b (byte_put x s)
 
+pub nothing : {text : List ℕ} {at : ℕ} → Puts [] text at text at
+unfolding puts
+nothing = record { put = refl }
+
 -- Two calls, one after the other.
 pub both : {a b text : List ℕ} {at : ℕ} {between : List ℕ} {place : ℕ} {after : List ℕ} {end : ℕ}
     → Puts a text at between place → Puts b between place after end → Puts (a ++ b) text at after end

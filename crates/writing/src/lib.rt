@@ -1,30 +1,50 @@
 // Bytes put into lent text, one after another.
 //
-// Each call is given the text and the place where it goes, and answers the place behind it. Bytes for which the text has no
-// room are left out, so no call asks for room.
+// Bytes for which the text has no room are left out, so no call asks for room.
 #![tactic(auto)]
 
 ghost use Rattle.std.specs.Prelude.{◌∷◌, []};
 ghost use Rattle.writing.specs.Writing.{Puts};
+ghost use Rattle.writing.specs.Texts.{Gains};
 
+// Lent text, and the place in it where the next byte goes.
+#[derive(Drop)]
+pub struct Text<'a> {
+    pub bytes: &'a mut [u8],
+    pub at: usize,
+}
+
+impl<'a> Text<'a> {
+    pub fn put_byte(&mut self, byte: u8)
+        ensures { Gains self.old self.new (byte ∷ []) }
+    {
+        if self.at < self.bytes.len() {
+            self.bytes[self.at] = byte;
+            self.at += 1;
+        }
+    }
+
+    pub fn put(&mut self, bytes: &[u8])
+        ensures { Gains self.old self.new bytes.now }
+    {
+        for byte in bytes {
+            self.put_byte(*byte);
+        }
+    }
+}
+
+// One byte, for a caller that keeps text and place apart; the place behind it.
 pub fn put_byte(text: &mut [u8], at: usize, byte: u8) -> usize
     ensures { Puts (byte ∷ []) text.old at text.new result }
 {
-    if at < text.len() {
-        text[at] = byte;
-        return at + 1;
-    }
-    at
+    put_bytes(text, at, &[byte])
 }
 
+// The same for bytes.
 pub fn put_bytes(text: &mut [u8], at: usize, bytes: &[u8]) -> usize
     ensures { Puts bytes.now text.old at text.new result }
 {
-    let mut end = at;
-    let mut i: usize = 0;
-    while i < bytes.len() {
-        end = put_byte(text, end, bytes[i]);
-        i += 1;
-    }
-    end
+    let mut text = Text { bytes: text, at };
+    text.put(bytes);
+    text.at
 }

@@ -3,8 +3,11 @@ use Rattle.std.proofs.Common.{◌≡◌, ◌-◌, length}
 use Rattle.batch.proofs.Looping.{Running}
 use Rattle.batch.proofs.run_commands.Given as goal
 
-abbrev pub invariant-loop-used : goal.invariant-loop-used
-invariant-loop-used l = Running l.fn.book l.book l.commands l.fn.output l.output l.used l.written × (length l.marks ≡ 65)
+abbrev pub invariant-loop-read : goal.invariant-loop-read
+invariant-loop-read l = record {
+  running : Running l.fn.book l.book l.commands l.fn.output l.output l.used l.written;
+  marks : length l.marks ≡ 65;
+}
 
-abbrev pub decreases-loop-used : goal.decreases-loop-used
-decreases-loop-used l = length l.commands - l.used
+abbrev pub decreases-loop-read : goal.decreases-loop-read
+decreases-loop-read l = length l.commands - l.used

@@ -3,6 +3,4 @@ use Rattle.bits.proofs.Stores.{mark_bit}
 use Rattle.bits.proofs.mark.Goals as goal
 
 pub returns : goal.returns
-returns c =
-    let s = c in
-    mark_bit s.args.map.now s.args.n s.requires
+returns c = mark_bit c.args.map.now c.args.n c.requires c.bit_of.result c.bit_of.ensures

@@ -1,37 +1,35 @@
--- Each way out is one way through the test that the number is held.
-use Rattle.std.proofs.Common.{◌≡◌, sym, ap, ◌∙◌, ℕ, List, get_or, take, drop}
-use Rattle.layout.specs.Layout.{places_at, place_words}
+-- The number is held where all three tests pass.
+use Rattle.std.proofs.Common.{◌≡◌, sym, ap, ap₂, ◌∙◌, le-ltb, get_or, take, drop}
+use Rattle.std.specs.Bool.{then_some}
+use Rattle.deciding.specs.Deciding.{true_not_false}
+use Rattle.layout.specs.Layout.{rules_limit, places_at, place_words}
 use Rattle.bits.specs.Packed.{fields}
-use Rattle.book.specs.Memory.{view}
-use Rattle.book.specs.Looking.{too_high, not_taken, other_number, found}
+use Rattle.book.specs.Memory.{view, held_at}
+use Rattle.book.specs.Looking.{too_high, not_taken, same_number}
+use Rattle.book.proofs.place_of.Goals.{After-then_some, then-r-lt-RULES, else-r-lt-RULES, then-is_marked, else-is_marked}
 use Rattle.book.proofs.place_of.Goals as goal
 
 -- the place as it is read
-read : (ws : List ℕ) (number i f r : ℕ) → r ≡ f → f ≡ get_or (fields (take place_words (drop places_at ws))) i 0 → i ≡ number → r ≡ (view ws).place number
-read ws number i f r e g h = e ∙ g ∙ ap (λ (k : ℕ). get_or (fields (take place_words (drop places_at ws))) k 0) h
+read : (c : After-then_some) → c.from-r.result ≡ (view c.args.m.now).place c.args.number
+read c = c.from-r.ensures ∙ c.field.ensures ∙ ap (λ k. get_or (fields (take place_words (drop places_at c.args.m.now))) k 0) c.from.ensures
 
-pub returns-then-r-ge-RULES : goal.returns-then-r-ge-RULES
-returns-then-r-ge-RULES c =
-    too_high c.args.m.now c.args.number c.size_of-r.result
-    (read c.args.m.now c.args.number c.size_of.result c.field.result c.size_of-r.result c.size_of-r.ensures c.field.ensures c.size_of.ensures)
-    c.if-r-ge-RULES.true
+tested : (c : After-then_some) → c.if-is_marked.held ≡ held_at (view c.args.m.now) c.args.number
+tested c =
+    let ws = c.args.m.now in
+    let k = c.args.number in
+    let r = c.from-r.result in
+    elim c.if-r-lt-RULES.branch [
+      | then-r-lt-RULES w ↦ elim c.if-is_marked.branch [
+        | then-is_marked v ↦ v.held-is ∙ same_number ws k r (read c) w.if-r-lt-RULES.true w.is_marked.result w.is_marked.ensures
+            (sym w.value-is ∙ v.if-is_marked.true) v.cell_of.result v.from-then-is_marked.result v.cell_of.ensures v.from-then-is_marked.ensures
+        | else-is_marked v ↦ v.held-is ∙ v.if-is_marked.false ∙ not_taken ws k r (read c) w.if-r-lt-RULES.true w.is_marked.result w.is_marked.ensures
+            (sym w.value-is ∙ v.if-is_marked.false)
+      ]
+      | else-r-lt-RULES w ↦ elim c.if-is_marked.branch [
+        | then-is_marked v ↦ absurd (true_not_false (sym w.value-is ∙ v.if-is_marked.true) (le-ltb r rules_limit w.if-r-lt-RULES.false))
+        | else-is_marked v ↦ v.held-is ∙ v.if-is_marked.false ∙ too_high ws k r (read c) w.if-r-lt-RULES.false
+      ]
+    ]
 
-pub returns-then-not-is_marked : goal.returns-then-not-is_marked
-returns-then-not-is_marked c =
-    not_taken c.args.m.now c.args.number c.size_of-r.result
-    (read c.args.m.now c.args.number c.size_of.result c.field.result c.size_of-r.result c.size_of-r.ensures c.field.ensures c.size_of.ensures)
-    c.if-r-ge-RULES.false c.is_marked.result c.is_marked.ensures c.if-not-is_marked.true
-
-pub returns-then-cell_of-wide : goal.returns-then-cell_of-wide
-returns-then-cell_of-wide c =
-    other_number c.args.m.now c.args.number c.size_of-r.result
-    (read c.args.m.now c.args.number c.size_of.result c.field.result c.size_of-r.result c.size_of-r.ensures c.field.ensures c.size_of.ensures)
-    c.if-r-ge-RULES.false c.is_marked.result c.is_marked.ensures c.if-not-is_marked.false
-    c.cell_of.result c.cell_of.ensures (λ e. c.if-cell_of-wide.true (e ∙ sym c.wide.ensures))
-
-pub returns : goal.returns
-returns c =
-    found c.args.m.now c.args.number c.size_of-r.result
-    (read c.args.m.now c.args.number c.size_of.result c.field.result c.size_of-r.result c.size_of-r.ensures c.field.ensures c.size_of.ensures)
-    c.if-r-ge-RULES.false c.is_marked.result c.is_marked.ensures c.if-not-is_marked.false
-    c.cell_of.result c.cell_of.ensures (c.if-cell_of-wide.false ∙ c.wide.ensures)
+pub returns-clause-place : goal.returns-clause-place
+returns-clause-place c = c.then_some.ensures ∙ ap₂ then_some (tested c) (read c)

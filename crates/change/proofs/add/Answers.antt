@@ -1,185 +1,118 @@
--- Each test is a refusal, in their order; past them the nodes are planted, the rule hangs and the record is put.
-use Rattle.std.proofs.Common.{◌≡◌, sym, ap, ◌∙◌, subst, List, ◌++◌, ℕ, arith, length, take, drop}
+-- Each refusal comes before anything is written; past them the nodes are planted, the rule hangs and the record is put.
+use Rattle.std.proofs.Common.{◌≡◌, Result, Err, refl, sym, ap, ◌∙◌, subst, List, ◌∷◌, [], ◌++◌, ℕ, ◌+◌, arith, length, take, drop, length-take}
 use Rattle.std.proofs.Math.ListN.{length-map}
-use Rattle.layout.specs.Layout.{tree_words, book_words}
+use Rattle.std.proofs.lemmas.Result.{err_from_is_err_and}
+use Rattle.std.specs.Option.{ok_or}
+use Rattle.std.specs.Result.{result_ok}
+use Rattle.layout.specs.Layout.{tree_words, sign_words, book_words}
+use Rattle.term.specs.Whole.{whole_term}
 use Rattle.links.specs.Words.{shape}
-use Rattle.tree.specs.Promises.{Hangable, Hung}
+use Rattle.tree.specs.Promises.{PlantedOf, Hangable, Hung}
+use Rattle.book.specs.declared.NotAdded.{NotAdded}
+use Rattle.book.specs.declared.NotAdded.TheVariants.{NoNodes}
 use Rattle.book.specs.Rules.{plain}
+use Rattle.book.specs.Memory.{form_of}
 use Rattle.book.specs.Looking.{tree_long}
-use Rattle.book.specs.Parts.{front_is}
-use Rattle.book.specs.Placing.{not_placed, placed}
-use Rattle.change.proofs.Signs.{with_signs}
-use Rattle.change.proofs.Removing.{tree_only}
-use Rattle.change.proofs.Adding.{held_already, book_full, place_low, term_whole, sound, no_nodes, hangable, taken_now, row_form}
+use Rattle.change.proofs.Signs.{with_signs, signs_only, written}
+use Rattle.change.proofs.Removing.{TreeOnly, tree_only}
+use Rattle.change.proofs.Adding.{refused, sound, no_nodes, hangable, taken_now, row_form}
 use Rattle.change.proofs.add.Goals as goal
 
--- the tree of the memory that is lent is the one that was put there
-hangs_there : (ws t : List ℕ) → length t ≡ tree_words → (l r k n : ℕ) → n ≡ k → Hangable t l r k → Hangable (take tree_words (t ++ drop tree_words ws)) l r n
-hangs_there ws t lt l r k n e h = subst (λ (z : ℕ). Hangable (take tree_words (t ++ drop tree_words ws)) l r z) (sym e)
-    (subst (λ (z : List ℕ). Hangable z l r k) (sym (front_is tree_words ws t lt)) h)
+same_err : (x y : NotAdded) → ◌≡◌ {A = Result ℕ NotAdded} (Err x) (Err y) → x ≡ y
+same_err x y e = cc
 
-hung_there : (ws t : List ℕ) → length t ≡ tree_words → (t' : List ℕ) (l r k n : ℕ) → n ≡ k
-    → Hung (shape (take tree_words (t ++ drop tree_words ws))) (shape t') l r n → Hung (shape t) (shape t') l r k
-hung_there ws t lt t' l r k n e h = subst (λ (z : ℕ). Hung (shape t) (shape t') l r z) e
-    (subst (λ (z : List ℕ). Hung (shape z) (shape t') l r n) (front_is tree_words ws t lt) h)
-
-pub returns-then-place_of-ne-RULES : goal.returns-then-place_of-ne-RULES
-returns-then-place_of-ne-RULES c =
-    held_already c.args.m.now c.args.number (plain c.args.term.now) c.requires.passing c.place_of.result
-    (placed c.args.m.now c.args.number c.place_of.result c.place_of.ensures c.if-place_of-ne-RULES.true)
-
-pub returns-then-r-eq-RULES : goal.returns-then-r-eq-RULES
-returns-then-r-eq-RULES c =
-    let ws = c.args.m.now in
-    let k = c.args.number in
-    let it = plain c.args.term.now in
-    let p = c.requires.passing in
-    let new = not_placed ws k c.place_of.result c.place_of.ensures c.if-place_of-ne-RULES.false in
-    let f = c.lowest_free-r in
-    book_full ws k it p new f.result f.ensures c.if-r-eq-RULES.true
+pub returns-in_err-r : goal.returns-in_err-r
+returns-in_err-r c =
+    let p = err_from_is_err_and c.from_residual.result c.from_residual.ensures.1 in
+    rw (p.1, p.2) (refused c.args.m.now c.args.number (plain c.args.term.now) _ c.requires.passing (c.in_err-r.ensures (plain c.args.term.now)))
 
 pub row-row-requires : goal.row-row-requires
-row-row-requires c =
-    let ws = c.args.m.now in
-    let k = c.args.number in
-    let it = plain c.args.term.now in
-    let p = c.requires.passing in
-    let new = not_placed ws k c.place_of.result c.place_of.ensures c.if-place_of-ne-RULES.false in
-    let f = c.lowest_free-r in
-    let whole = term_whole ws k it p new f.result f.ensures c.if-r-eq-RULES.false c.requires.term in
-    (omega arith, whole.short)
+row-row-requires c = (whole_term c.args.term.now (length c.args.term.now) c.requires.term).short
+
+form_long : (row t : List ℕ) (k : ℕ) → take (length t + 1) row ≡ form_of t ++ (k ∷ []) → length (take (length t) row) ≡ length t
+form_long row t k e = ap length (row_form row t k e) ∙ length-map t _
+
+pub slice_bounds-form-end : goal.slice_bounds-form-end
+slice_bounds-form-end c = sym (form_long c.row-row.result c.args.term.now c.args.number c.row-row.ensures)
 
 pub descend-down-requires-clause-sound : goal.descend-down-requires-clause-sound
-descend-down-requires-clause-sound c =
-    let ws = c.args.m.now in
-    let k = c.args.number in
-    let it = plain c.args.term.now in
-    let p = c.requires.passing in
-    let new = not_placed ws k c.place_of.result c.place_of.ensures c.if-place_of-ne-RULES.false in
-    let f = c.lowest_free-r in
-    sound ws k it p new f.result f.ensures c.if-r-eq-RULES.false c.requires.term c.requires.number_lt_rule_numbers
+descend-down-requires-clause-sound c = sound c.args.m.now c.requires.passing
 
-pub plant-last-requires-clause-sound : goal.plant-last-requires-clause-sound
-plant-last-requires-clause-sound c =
-    let ws = c.args.m.now in
-    let k = c.args.number in
-    let it = plain c.args.term.now in
-    let p = c.requires.passing in
-    let new = not_placed ws k c.place_of.result c.place_of.ensures c.if-place_of-ne-RULES.false in
-    let f = c.lowest_free-r in
-    sound ws k it p new f.result f.ensures c.if-r-eq-RULES.false c.requires.term c.requires.number_lt_rule_numbers
+pub plant-requires-clause-sound : goal.plant-requires-clause-sound
+plant-requires-clause-sound c = sound c.args.m.now c.requires.passing
 
-pub plant-last-requires-clause-form_nonzero : goal.plant-last-requires-clause-form_nonzero
-plant-last-requires-clause-form_nonzero c =
-    let ws = c.args.m.now in
-    let k = c.args.number in
-    let it = plain c.args.term.now in
-    let p = c.requires.passing in
-    let new = not_placed ws k c.place_of.result c.place_of.ensures c.if-place_of-ne-RULES.false in
-    let f = c.lowest_free-r in
-    let whole = term_whole ws k it p new f.result f.ensures c.if-r-eq-RULES.false c.requires.term in
-    let form_is = row_form c.row-row.result c.args.term.now k c.row-row.ensures in
-    let form_long = ap length form_is ∙ length-map c.args.term.now _ in
-    omega (arith, form_long, whole.some)
+pub plant-requires-clause-form_nonzero : goal.plant-requires-clause-form_nonzero
+plant-requires-clause-form_nonzero c =
+    let whole = whole_term c.args.term.now (length c.args.term.now) c.requires.term in
+    omega (arith, form_long c.row-row.result c.args.term.now c.args.number c.row-row.ensures, whole.some)
 
-pub plant-last-requires-clause-form_len_bound : goal.plant-last-requires-clause-form_len_bound
-plant-last-requires-clause-form_len_bound c =
-    let ws = c.args.m.now in
-    let k = c.args.number in
-    let it = plain c.args.term.now in
-    let p = c.requires.passing in
-    let new = not_placed ws k c.place_of.result c.place_of.ensures c.if-place_of-ne-RULES.false in
-    let f = c.lowest_free-r in
-    let whole = term_whole ws k it p new f.result f.ensures c.if-r-eq-RULES.false c.requires.term in
-    let form_is = row_form c.row-row.result c.args.term.now k c.row-row.ensures in
-    let form_long = ap length form_is ∙ length-map c.args.term.now _ in
-    omega (arith, form_long, whole.short)
+pub plant-requires-clause-form_len_bound : goal.plant-requires-clause-form_len_bound
+plant-requires-clause-form_len_bound c =
+    let whole = whole_term c.args.term.now (length c.args.term.now) c.requires.term in
+    omega (arith, form_long c.row-row.result c.args.term.now c.args.number c.row-row.ensures, whole.short)
 
-pub returns-then-last-eq0 : goal.returns-then-last-eq0
-returns-then-last-eq0 c =
+pub returns-in_err-last : goal.returns-in_err-last
+returns-in_err-last c =
     let ws = c.args.m.now in
-    let k = c.args.number in
-    let it = plain c.args.term.now in
-    let p = c.requires.passing in
-    let new = not_placed ws k c.place_of.result c.place_of.ensures c.if-place_of-ne-RULES.false in
-    let f = c.lowest_free-r in
-    let form_is = row_form c.row-row.result c.args.term.now k c.row-row.ensures in
-    no_nodes ws k it p new f.result f.ensures c.if-r-eq-RULES.false c.requires.term c.requires.number_lt_rule_numbers
-    c.plant-last.new.m c.plant-last.result _ form_is c.plant-last.ensures c.if-last-eq0.true
+    let form = take (length c.args.term.now) c.row-row.result in
+    let none = c.ok_or.ensures.ok_part ∙ ap result_ok c.in_err-last.was in
+    let why = same_err _ _ (sym c.in_err-last.was ∙ c.ok_or.ensures.value ∙ ap (λ o. ok_or o NoNodes) none) in
+    let p = err_from_is_err_and c.from_residual-in_err-last.result c.from_residual-in_err-last.ensures.1 in
+    rw (p.1, p.2, why)
+    (no_nodes ws c.args.number (plain c.args.term.now) c.requires.passing c.in_ok-r.r c.in_ok-r.ensures c.requires.term c.requires.number_lt_rule_numbers
+    c.plant.new.m 0 form (row_form c.row-row.result c.args.term.now c.args.number c.row-row.ensures)
+    (subst (PlantedOf (take tree_words ws) c.plant.new.m form) none c.plant.ensures) refl)
 
 pub hang-requires : goal.hang-requires
 hang-requires c =
     let ws = c.args.m.now in
-    let k = c.args.number in
-    let it = plain c.args.term.now in
-    let p = c.requires.passing in
-    let new = not_placed ws k c.place_of.result c.place_of.ensures c.if-place_of-ne-RULES.false in
-    let f = c.lowest_free-r in
-    let form_is = row_form c.row-row.result c.args.term.now k c.row-row.ensures in
-    let t = c.plant-last.new.m in
-    let kept : length t ≡ tree_words = c.plant-last.auto.m ∙ tree_long ws p.size in
-    hangs_there ws t kept c.plant-last.result f.result k c.wide.result c.wide.ensures
-    (hangable ws k it p new f.result f.ensures c.if-r-eq-RULES.false c.requires.term c.requires.number_lt_rule_numbers
-    t c.plant-last.result _ form_is c.plant-last.ensures c.if-last-eq0.false kept)
+    let form = take (length c.args.term.now) c.row-row.result in
+    let planted = subst (PlantedOf (take tree_words ws) c.plant.new.m form) (c.ok_or.ensures.ok_part ∙ ap result_ok c.in_ok-last.was) c.plant.ensures in
+    subst (λ (n : ℕ). Hangable c.plant.new.m c.in_ok-last.last c.in_ok-r.r n) (sym c.from.ensures)
+    (hangable ws c.args.number (plain c.args.term.now) c.requires.passing c.in_ok-r.r c.in_ok-r.ensures c.requires.term c.requires.number_lt_rule_numbers
+    c.plant.new.m c.in_ok-last.last form (row_form c.row-row.result c.args.term.now c.args.number c.row-row.ensures) planted.1 planted.0
+    (c.plant.auto.m ∙ tree_long ws c.requires.passing.size))
 
-pub put_record-requires : goal.put_record-requires
-put_record-requires c =
-    let ws = c.args.m.now in
-    let k = c.args.number in
-    let it = plain c.args.term.now in
-    let p = c.requires.passing in
-    let new = not_placed ws k c.place_of.result c.place_of.ensures c.if-place_of-ne-RULES.false in
-    let f = c.lowest_free-r in
-    let whole = term_whole ws k it p new f.result f.ensures c.if-r-eq-RULES.false c.requires.term in
-    let form_is = row_form c.row-row.result c.args.term.now k c.row-row.ensures in
-    let t = c.plant-last.new.m in
-    let kept : length t ≡ tree_words = c.plant-last.auto.m ∙ tree_long ws p.size in
-    let one = tree_only ws t p.size kept in
-    let size₁ : length (t ++ drop tree_words ws) ≡ book_words = one.long ∙ p.size in
-    let hung_kept : length c.hang.new.m ≡ tree_words = c.hang.auto.m ∙ tree_long (t ++ drop tree_words ws) size₁ in
-    let two = tree_only (t ++ drop tree_words ws) c.hang.new.m size₁ hung_kept in (
-      two.long ∙ size₁,
-      place_low ws k it p new f.result f.ensures c.if-r-eq-RULES.false,
-      c.requires.number_lt_rule_numbers,
-      whole.short,
-    )
+-- the memory with the rule hung in the tree
+hung_only : (ws t₁ t₂ : List ℕ) → length ws ≡ book_words → length t₁ ≡ length (take tree_words ws) → length t₂ ≡ length t₁
+    → TreeOnly ws (t₂ ++ drop tree_words ws) (shape t₂)
+hung_only ws t₁ t₂ size e f = tree_only ws t₂ size (f ∙ e ∙ tree_long ws size)
 
-pub put_signs-requires : goal.put_signs-requires
-put_signs-requires c =
-    let ws = c.args.m.now in
-    let k = c.args.number in
-    let it = plain c.args.term.now in
+pub put_record-requires-clause-m_len : goal.put_record-requires-clause-m_len
+put_record-requires-clause-m_len c =
     let p = c.requires.passing in
-    let new = not_placed ws k c.place_of.result c.place_of.ensures c.if-place_of-ne-RULES.false in
-    let f = c.lowest_free-r in
-    let form_is = row_form c.row-row.result c.args.term.now k c.row-row.ensures in
-    let t = c.plant-last.new.m in
-    let kept : length t ≡ tree_words = c.plant-last.auto.m ∙ tree_long ws p.size in
-    let one = tree_only ws t p.size kept in
-    let size₁ : length (t ++ drop tree_words ws) ≡ book_words = one.long ∙ p.size in
-    let hung_kept : length c.hang.new.m ≡ tree_words = c.hang.auto.m ∙ tree_long (t ++ drop tree_words ws) size₁ in
-    let two = tree_only (t ++ drop tree_words ws) c.hang.new.m size₁ hung_kept in
-    let long : length c.put_record.new.m ≡ book_words = c.put_record.auto.m ∙ two.long ∙ size₁ in
-    (long, place_low ws k it p new f.result f.ensures c.if-r-eq-RULES.false)
+    (hung_only c.args.m.now c.plant.new.m c.hang.new.m p.size c.plant.auto.m c.hang.auto.m).long ∙ p.size
+
+pub put_record-requires-clause-term_len : goal.put_record-requires-clause-term_len
+put_record-requires-clause-term_len c = (whole_term c.args.term.now (length c.args.term.now) c.requires.term).short
+
+stored_long : (c : goal.After-put_signs-arg-1) → length c.put_record.new.m ≡ book_words
+stored_long c =
+    let ws = c.args.m.now in
+    let p = c.requires.passing in
+    c.put_record.auto.m ∙ (hung_only ws c.plant.new.m c.hang.new.m p.size c.plant.auto.m c.hang.auto.m).long ∙ p.size
+
+pub slice_bounds-put_signs-end-2 : goal.slice_bounds-put_signs-end-2
+slice_bounds-put_signs-end-2 c =
+    omega (arith, stored_long c, c.split_at_mut-words.ensures.back_len, length-take sign_words c.split_at_mut-words.result.1.now)
+
+pub put_signs-requires-clause-signs_len : goal.put_signs-requires-clause-signs_len
+put_signs-requires-clause-signs_len c =
+    omega (arith, stored_long c, c.split_at_mut-words.ensures.back_len, length-take sign_words c.split_at_mut-words.result.1.now)
 
 pub returns : goal.returns
 returns c =
     let ws = c.args.m.now in
     let k = c.args.number in
-    let it = plain c.args.term.now in
     let p = c.requires.passing in
-    let new = not_placed ws k c.place_of.result c.place_of.ensures c.if-place_of-ne-RULES.false in
-    let f = c.lowest_free-r in
-    let form_is = row_form c.row-row.result c.args.term.now k c.row-row.ensures in
-    let t = c.plant-last.new.m in
-    let kept : length t ≡ tree_words = c.plant-last.auto.m ∙ tree_long ws p.size in
-    let one = tree_only ws t p.size kept in
-    let size₁ : length (t ++ drop tree_words ws) ≡ book_words = one.long ∙ p.size in
-    let hung_kept : length c.hang.new.m ≡ tree_words = c.hang.auto.m ∙ tree_long (t ++ drop tree_words ws) size₁ in
-    let two = tree_only (t ++ drop tree_words ws) c.hang.new.m size₁ hung_kept in
-    let long : length c.put_record.new.m ≡ book_words = c.put_record.auto.m ∙ two.long ∙ size₁ in
-    let hung = hung_there ws t kept c.hang.new.m c.plant-last.result f.result k c.wide.result c.wide.ensures c.hang.ensures in
-    let takes = taken_now ws k it p new f.result f.ensures c.if-r-eq-RULES.false c.requires.term c.requires.number_lt_rule_numbers
-    t c.plant-last.result _ form_is c.plant-last.ensures c.if-last-eq0.false
-    c.hang.new.m _ c.put_record.new.m _ one hung two c.put_record.ensures long in
-    with_signs takes c.put_signs.ensures c.put_signs.auto.m
+    let form = take (length c.args.term.now) c.row-row.result in
+    let planted = subst (PlantedOf (take tree_words ws) c.plant.new.m form) (c.ok_or.ensures.ok_part ∙ ap result_ok c.in_ok-last.was) c.plant.ensures in
+    let only = hung_only ws c.plant.new.m c.hang.new.m p.size c.plant.auto.m c.hang.auto.m in
+    let long : length c.put_record.new.m ≡ book_words = c.put_record.auto.m ∙ only.long ∙ p.size in
+    let hung = subst (λ (n : ℕ). Hung (shape c.plant.new.m) (shape c.hang.new.m) c.in_ok-last.last c.in_ok-r.r n) c.from.ensures c.hang.ensures in
+    let takes = taken_now ws k (plain c.args.term.now) p c.in_ok-r.r c.in_ok-r.ensures c.requires.term c.requires.number_lt_rule_numbers
+    c.plant.new.m c.in_ok-last.last _ (row_form c.row-row.result c.args.term.now k c.row-row.ensures) planted.1 planted.0
+    c.hang.new.m _ c.put_record.new.m hung only c.put_record.ensures long in
+    let only_signs = written c.put_record.new.m c.split_at_mut-words.result.0.now c.split_at_mut-words.result.1.now c.put_signs.new.signs long
+    c.split_at_mut-words.ensures.front c.split_at_mut-words.ensures.back c.put_signs.auto.signs in
+    with_signs takes (signs_only only_signs) only_signs.long

@@ -16,13 +16,13 @@ returns c =
     let r = c.args.r in
     let t = c.args.term.now in
     let p = c.put_field.new.words in
-    let lp : length p ≡ place_words = places_long ws p c.put_field.auto.words c.requires.0 in
+    let lp : length p ≡ place_words = places_long ws p c.put_field.auto.words c.requires.m_len in
     let fp : fields p ≡ set (fields (take place_words (drop places_at ws))) c.args.number r =
-    c.put_field.ensures ∙ ap (λ (i : ℕ). set (fields (take place_words (drop places_at ws))) i r) c.size_of.ensures in
-    let l = two_long ws p (terms_at + record_words * r - 1) (length t) c.requires.0 lp in
+    c.put_field.ensures ∙ ap (λ (i : ℕ). set (fields (take place_words (drop places_at ws))) i r) c.from.ensures in
+    let l = two_long ws p (terms_at + record_words * r - 1) (length t) c.requires.m_len lp in
     let lq : length c.store.new.words ≡ term_words =
     c.store.auto.words
     ∙ term_long (set (put_mid places_at place_words ws p) (terms_at + record_words * r - 1) (length t)) (terms_at + record_words * r)
-    (terms_at + record_words * r + term_words - (terms_at + record_words * r)) (omega arith) (omega (arith, l, c.requires.1)) in
-    stored ws p c.store.new.words c.args.number r (length t) (plain t) c.requires.0 c.requires.1 c.requires.2 lp fp refl
+    (terms_at + record_words * r + term_words - (terms_at + record_words * r)) (omega arith) (omega (arith, l, c.requires.r_low)) in
+    stored ws p c.store.new.words c.args.number r (length t) (plain t) c.requires.m_len c.requires.r_low c.requires.number_lt_rule_numbers lp fp refl
     (terms_at + record_words * r + term_words - (terms_at + record_words * r)) (omega arith) lq c.store.ensures

@@ -1,8 +1,7 @@
 -- The parts of the line, one after another.
-use Rattle.writing.specs.Writing.{both}
+use Rattle.writing.specs.Texts.{then}
 use Rattle.listing.proofs.put_stop.Goals as goal
 
 pub returns : goal.returns
 returns c =
-    both (both (both (both (both (both c.put_bytes-a.ensures c.put_decimal-b.ensures) c.put_bytes-c.ensures) c.put_decimal-d.ensures)
-    c.put_bytes-e.ensures) c.put_decimal-f.ensures) c.put_byte.ensures
+    then (then (then (then (then (then c.put.ensures c.put_decimal.ensures) c.put-2.ensures) c.put_decimal-2.ensures) c.put-3.ensures) c.put_decimal-3.ensures) c.put-4.ensures

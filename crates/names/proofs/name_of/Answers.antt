@@ -4,4 +4,4 @@ use Rattle.names.proofs.Writing.{part_inside}
 use Rattle.names.proofs.name_of.Goals as goal
 
 pub slice_bounds-result-end : goal.slice_bounds-result-end
-slice_bounds-result-end c = omega (arith, part_inside _ _ _ c.in-At.ensures)
+slice_bounds-result-end c = omega (arith, part_inside _ _ _ c.in-Ok.ensures)

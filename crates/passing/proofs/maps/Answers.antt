@@ -1,8 +1,6 @@
--- Word by word.
-use Rattle.passing.proofs.Ending.{copied_all}
+-- Memory has the words of the maps.
+use Rattle.std.proofs.Common.{arith, length-take}
 use Rattle.passing.proofs.maps.Goals as goal
 
-pub returns : goal.returns
-returns c =
-    let l = c.loop-i in
-    copied_all c.args.m.now l.left l.i c.requires l.invariant.0 c.loop-i-test.false l.invariant.2
+pub slice_bounds-copy_from_slice-end-2 : goal.slice_bounds-copy_from_slice-end-2
+slice_bounds-copy_from_slice-end-2 c = omega (arith, length-take 72 c.args.m.now, c.requires)

@@ -3,58 +3,26 @@ use Rattle.std.proofs.Common.{arith}
 use Rattle.passing.proofs.Along.{rules_start, no_rule, other_rule, rule_word, one_less, rules_on, rules_over}
 use Rattle.passing.proofs.rules.Goals as goal
 
-pub loop-got-init : goal.loop-got-init
-loop-got-init c =
-    let at = c.args.at in
-    rules_start c.args.m.now c.args.left.now c.args.way.now c.args.wants.now c.args.stack.now at.x at.p at.low at.depth at.top
-    c.requires.sizes c.requires.at_hook c.requires.depth_value
+pub loop-w-init : goal.loop-w-init
+loop-w-init c = rules_start c.requires.sizes c.requires.at_hook c.requires.depth_value
 
-pub returns-then-not-right : goal.returns-then-not-right
-returns-then-not-right c =
-    let at = c.args.at in
-    let l = c.loop-got in
-    let k = c.enter_rule-got in
-    no_rule c.args.m.now c.args.left.now l.left c.args.way.now c.args.wants.now c.args.stack.now l.x at.p l.low at.depth at.top l.invariant
-    k.new.left k.result.word k.result.right k.ensures c.if-not-right.true
+pub returns-in_default : goal.returns-in_default
+returns-in_default c = no_rule c.loop-w.invariant c.in_default.ensures
 
 pub is_rule-requires-clause-number_value : goal.is_rule-requires-clause-number_value
-is_rule-requires-clause-number_value c =
-    let at = c.args.at in
-    let l = c.loop-got in
-    let k = c.enter_rule-got in
-    rule_word c.args.m.now c.args.left.now l.left c.args.way.now c.args.wants.now c.args.stack.now l.x at.p l.low at.depth at.top l.invariant
-    k.new.left k.result.word k.result.right k.ensures c.if-not-right.false c.cell_of-number.result c.cell_of-number.ensures
+is_rule-requires-clause-number_value c = rule_word c.loop-w.invariant c.in-Some.ensures c.cell_of-number.ensures
 
 pub returns-then-not-is_rule : goal.returns-then-not-is_rule
-returns-then-not-is_rule c =
-    let at = c.args.at in
-    let l = c.loop-got in
-    other_rule c.args.m.now c.args.left.now l.left c.args.way.now c.args.wants.now c.args.stack.now l.x at.p l.low at.depth at.top l.invariant
-    c.enter_rule-got.new.left c.is_rule.result c.is_rule.ensures c.if-not-is_rule.true
+returns-then-not-is_rule c = other_rule c.loop-w.invariant c.is_rule.ensures c.if-not-is_rule.true
 
-pub returns-then-x-eq0 : goal.returns-then-x-eq0
-returns-then-x-eq0 c =
-    let at = c.args.at in
-    let l = c.loop-got in
-    let k = c.enter_rule-got in
-    rules_over c.args.m.now c.args.left.now l.left c.args.way.now c.args.wants.now c.args.stack.now l.x at.p l.low at.depth at.top l.invariant
-    k.new.left k.result.word k.result.right k.ensures c.if-not-right.false c.is_rule.result c.is_rule.ensures c.if-not-is_rule.false
-    c.next_of-x.result c.next_of-x.ensures c.if-x-eq0.true
+pub returns-then-at-eq0 : goal.returns-then-at-eq0
+returns-then-at-eq0 c =
+    rules_over c.loop-w.invariant c.in-Some.ensures c.is_rule.ensures c.if-not-is_rule.false c.next_of.ensures c.if-at-eq0.true
 
-pub loop-got-smaller : goal.loop-got-smaller
-loop-got-smaller c =
-    let at = c.args.at in
-    let l = c.loop-got in
-    let k = c.enter_rule-got in
-    let q = one_less c.args.m.now c.args.left.now l.left c.args.way.now c.args.wants.now c.args.stack.now l.x at.p l.low at.depth at.top l.invariant
-    k.new.left k.result.word k.result.right k.ensures c.if-not-right.false c.is_rule.result c.is_rule.ensures c.if-not-is_rule.false in
-    omega (arith, q)
+pub loop-w-smaller : goal.loop-w-smaller
+loop-w-smaller c = omega (arith, one_less c.loop-w.invariant c.in-Some.ensures c.is_rule.ensures c.if-not-is_rule.false)
 
-pub loop-got-preserved : goal.loop-got-preserved
-loop-got-preserved c =
-    let at = c.args.at in
-    let l = c.loop-got in
-    let k = c.enter_rule-got in
-    rules_on c.args.m.now c.args.left.now l.left c.args.way.now c.args.wants.now c.args.stack.now l.x at.p l.low at.depth at.top l.invariant
-    k.new.left k.result.word k.result.right k.ensures c.if-not-right.false c.is_rule.result c.is_rule.ensures c.if-not-is_rule.false
-    c.next_of-x.result c.cell_of-number.result k.auto.left c.cell_of-number.ensures c.next_of-x.ensures c.if-x-eq0.false
+pub loop-w-preserved : goal.loop-w-preserved
+loop-w-preserved c =
+    rules_on c.loop-w.invariant c.in-Some.ensures c.is_rule.ensures c.if-not-is_rule.false c.enter_rule.auto.left
+    c.cell_of-number.ensures c.next_of.ensures c.if-at-eq0.false

@@ -4,8 +4,8 @@ use Rattle.shape.specs.Tally.{tally, marked}
 use Rattle.passing.proofs.Along.{Ruling}
 use Rattle.passing.proofs.rules.Given as goal
 
-abbrev pub invariant-loop-got : goal.invariant-loop-got
-invariant-loop-got l = Ruling l.m l.fn.left l.left l.way l.wants l.stack l.x l.p l.low l.depth l.top
+abbrev pub invariant-loop-w : goal.invariant-loop-w
+invariant-loop-w l = Ruling l.m l.fn.left l.left l.way l.wants l.stack l.fn.at.depth l.fn.at.top l.at
 
-abbrev pub decreases-loop-got : goal.decreases-loop-got
-decreases-loop-got l = tally (marked l.left) last_link
+abbrev pub decreases-loop-w : goal.decreases-loop-w
+decreases-loop-w l = tally (marked l.left) last_link

@@ -3,4 +3,4 @@ use Rattle.recorded.proofs.Moving.{plainly}
 use Rattle.recorded.proofs.is_record.Goals as goal
 
 pub returns-then-is_plain : goal.returns-then-is_plain
-returns-then-is_plain c = plainly c.args.words.now c.args.way.now c.args.depth c.requires.0 (c.is_plain.ensures c.if-is_plain.true)
+returns-then-is_plain c = plainly c.requires c.is_plain.ensures c.if-is_plain.true

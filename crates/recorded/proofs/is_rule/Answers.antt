@@ -1,22 +1,22 @@
 -- Test by test, as the rule's conditions stand.
-use Rattle.std.proofs.Common.{◌∙◌, ◌+◌, ◌*◌, ◌-◌, arith}
-use Rattle.layout.specs.Layout.{record_words, terms_at}
-use Rattle.recorded.proofs.Ruling.{rule_high, rule_lost, rule_is}
+use Rattle.std.proofs.Common.{◌∙◌, arith}
+use Rattle.book.specs.Looking.{rule_number}
+use Rattle.recorded.proofs.Ruling.{rule_high, rule_lost, rule_long, rule_is}
 use Rattle.recorded.proofs.is_rule.Goals as goal
+use Rattle.recorded.proofs.is_rule.Goals.{then-from-r-via-then-from-r, then-from-r-via-else-from-r+then-m-at}
 
 pub returns-then-number-ge-NUMBERS : goal.returns-then-number-ge-NUMBERS
-returns-then-number-ge-NUMBERS c =
-    rule_high c.args.m.now c.args.way.now c.args.r c.args.depth c.requires.m_len.2 c.args.number c.requires.number_value c.if-number-ge-NUMBERS.true
+returns-then-number-ge-NUMBERS c = rule_high (c.requires.number_value ∙ rule_number _ _ c.requires.r_low) c.if-number-ge-NUMBERS.true
 
-pub returns-then-size_of-r : goal.returns-then-size_of-r
-returns-then-size_of-r c =
-    let p = c.size_of in
-    rule_lost c.args.m.now c.args.way.now c.args.r c.args.depth c.requires.m_len.2 c.args.number c.requires.number_value
-    p.result (p.ensures ∙ c.field-place.ensures) c.if-size_of-r.true
+pub returns-then-from-r : goal.returns-then-from-r
+returns-then-from-r c =
+    elim c.then-from-r.branch [
+      | then-from-r-via-then-from-r b ↦
+          rule_lost (c.requires.number_value ∙ rule_number _ _ c.requires.r_low) (c.from.ensures ∙ c.field-place.ensures) b.if-from-r.true
+      | then-from-r-via-else-from-r+then-m-at b ↦ rule_long b.if-m-at.true
+    ]
 
 pub returns : goal.returns
 returns c =
-    let p = c.size_of in
-    rule_is c.args.m.now c.args.way.now c.args.r c.args.depth c.requires.m_len.2 c.args.number c.requires.number_value
-    c.if-number-ge-NUMBERS.false p.result (p.ensures ∙ c.field-place.ensures) c.if-size_of-r.false c.if-m-at.false
-    (terms_at + record_words * c.args.r + 8 - (terms_at + record_words * c.args.r)) (omega arith) c.is_record.result c.is_record.ensures
+    rule_is (c.requires.number_value ∙ rule_number _ _ c.requires.r_low) (c.from.ensures ∙ c.field-place.ensures)
+    c.if-number-ge-NUMBERS.false c.if-from-r.false c.if-m-at.false (omega arith) c.is_record.ensures

@@ -1,16 +1,11 @@
 -- At each turn the bytes so far are in the buffer, and the token goes on from here.
-use Rattle.std.proofs.Common.{length, ◌-◌, ◌≡◌, ◌≤◌, drop}
+use Rattle.std.proofs.Common.{◌≡◌, drop}
 use Rattle.tokens.specs.Tokens.{quoted}
-use Rattle.tokens.proofs.Steps.{Going}
+use Rattle.tokens.proofs.Steps.{Going, quoted_in}
 use Rattle.tokens.proofs.quoted.Given as goal
 
 abbrev pub invariant-loop-i : goal.invariant-loop-i
 invariant-loop-i l = record {
-  in_text : l.i ≤ length l.text;
-  few : l.size ≤ 32;
-  room : length l.buffer ≡ 32;
-  going : Going quoted (quoted (drop l.at l.text)) l.text l.i l.buffer l.size;
+  same_buffer : l.kept.buffer.ghost_name ≡ l.initial.kept.buffer.ghost_name;
+  going : Going (quoted (drop l.at l.text)) (quoted_in l.escaped (drop l.i l.text)) l.kept.buffer.now l.kept.size;
 }
-
-abbrev pub decreases-loop-i : goal.decreases-loop-i
-decreases-loop-i l = length l.text - l.i

@@ -1,10 +1,6 @@
--- Each turn links the lowest free node in at the sorted hook of the next cell, which is known: behind b, and then below the new node
-use Rattle.std.proofs.Common.{◌-◌, length}
+-- Each turn links the lowest free node in at the sorted hook of the next cell, which is known: the one given, and then the first below the new node
 use Rattle.tree.proofs.Growing.{Full, Chain}
 use Rattle.tree.proofs.grow.Given as goal
 
-abbrev pub invariant-loop-i : goal.invariant-loop-i
-invariant-loop-i l = Chain l.fn.m l.m l.l l.at l.behind l.form l.i × Full l.m l.full
-
-abbrev pub decreases-loop-i : goal.decreases-loop-i
-decreases-loop-i l = length l.form - l.i
+abbrev pub invariant-loop-cell : goal.invariant-loop-cell
+invariant-loop-cell l = Chain l.fn.m l.m l.fn.from.parent l.at.parent l.at.behind l.form l.cell-index × Full l.m l.full

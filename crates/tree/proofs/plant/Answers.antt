@@ -1,12 +1,6 @@
 -- Whether what is missing has nodes is known before anything is written, and then it grows
-use Rattle.tree.proofs.Growing.{plant_growing, plant_full, plant_fits}
+use Rattle.tree.proofs.Growing.{plant_growing, plant_fits}
 use Rattle.tree.proofs.plant.Goals as goal
-
-pub returns-then-not-has_nodes : goal.returns-then-not-has_nodes
-returns-then-not-has_nodes c =
-    let d = c.args.d in
-    plant_full c.args.m.now c.args.form.now c.requires.sound d.link d.depth c.requires.descended
-    (c.has_nodes.ensures.no c.if-not-has_nodes.true)
 
 pub grow-requires : goal.grow-requires
 grow-requires c =

@@ -6,7 +6,7 @@ use Rattle.bits.proofs.numbers.after.Goals as goal
 pub returns-then-left-eq0 : goal.returns-then-left-eq0
 returns-then-left-eq0 c =
     let r = c.requires in
-    word_goes c.args.map.now r.number_set c.args.at c.args.rest r.at_bound.0 r.at_bound.1 r.rest_value _ _ c.if-left-eq0.true c.first.ensures
+    word_goes c.args.map.now r.number_set c.args.at c.args.rest r.at_bound.0 r.at_bound.1 r.rest_value c.if-left-eq0.true _ c.first.ensures
 
 pub returns : goal.returns
 returns c =

@@ -8,7 +8,7 @@ returns-then-term-i c = fours_past c.args.term.now c.args.i c.if-term-i.true
 
 pub returns : goal.returns
 returns c =
-    fours_are c.args.term.now c.args.i c.wide-a.result c.wide-b.result c.wide-c.result c.wide-d.result
+    fours_are c.args.term.now c.args.i c.from-a.result c.from-b.result c.from-c.result c.from-d.result
     (omega arith) (omega arith) (omega arith) (omega arith)
-    (c.wide-a.ensures ∙ c.cell_or_zero.ensures) (c.wide-b.ensures ∙ c.cell_or_zero-2.ensures)
-    (c.wide-c.ensures ∙ c.cell_or_zero-3.ensures) (c.wide-d.ensures ∙ c.cell_or_zero-4.ensures)
+    (c.from-a.ensures ∙ c.cell_or_zero.ensures) (c.from-b.ensures ∙ c.cell_or_zero-2.ensures)
+    (c.from-c.ensures ∙ c.cell_or_zero-3.ensures) (c.from-d.ensures ∙ c.cell_or_zero-4.ensures)

@@ -9,8 +9,7 @@ pub loop-i-preserved : goal.loop-i-preserved
 loop-i-preserved c =
     let l = c.loop-i in (
       simp length-set l.invariant.0,
-      omega arith,
-      filled_four c.args.term.now l.words l.i c.four.result (omega arith) c.four.ensures l.invariant.2,
+      filled_four c.args.term.now l.words l.i c.four.result (omega arith) c.four.ensures l.invariant.1,
     )
 
 pub returns : goal.returns
@@ -18,4 +17,4 @@ returns c =
     let l = c.loop-i in
     let t = c.args.term.now in
     filled_all (fields l.words) _ (4 * l.i) (λ k. get_or t k 0) (omega (arith, fields_long l.words, padded_long t c.requires.1))
-    (omega (arith, fields_long l.words)) (λ k h. padded t (32 - length t) k) l.invariant.2
+    (omega (arith, fields_long l.words)) (λ k h. padded t (32 - length t) k) l.invariant.1

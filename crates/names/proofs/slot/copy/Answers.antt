@@ -12,8 +12,7 @@ pub loop-i-preserved : goal.loop-i-preserved
 loop-i-preserved c =
     let l = c.loop-i in
     let a = c.args in
-    let room : a.at + l.i < length a.table.now = omega arith in (
-      omega arith,
-      length-set l.table (a.at + l.i) (get_or a.bytes.now l.i 0) ∙ l.invariant.1,
-      copy_more a.table.now a.at a.bytes.now l.i room (omega arith) l.table l.invariant.2,
+    let room : a.at + l.i < length a.table.now = omega (arith, c.requires, c.loop-i-test.true) in (
+      length-set l.table (a.at + l.i) (get_or a.bytes.now l.i 0) ∙ l.invariant.0,
+      copy_more a.table.now a.at a.bytes.now l.i room c.loop-i-test.true l.table l.invariant.1,
     )

@@ -1,10 +1,7 @@
 -- After i turns the first i bytes are copied.
-use Rattle.std.proofs.Common.{length, ◌-◌, ◌≡◌, ◌≤◌}
+use Rattle.std.proofs.Common.{length, ◌≡◌}
 use Rattle.std.proofs.Math.Seq.{paste}
 use Rattle.names.proofs.slot.copy.Given as goal
 
 abbrev pub invariant-loop-i : goal.invariant-loop-i
-invariant-loop-i l = (l.i ≤ length l.bytes) × (length l.table ≡ length l.fn.table) × (l.table ≡ paste l.fn.table l.at l.bytes l.i)
-
-abbrev pub decreases-loop-i : goal.decreases-loop-i
-decreases-loop-i l = length l.bytes - l.i
+invariant-loop-i l = (length l.table ≡ length l.fn.table) × (l.table ≡ paste l.fn.table l.at l.bytes l.i)

@@ -1,14 +1,15 @@
--- The walk goes from mark to mark, and counts each.
-use Rattle.std.proofs.Common.{arith}
-use Rattle.questions.proofs.Writing.{begins_count, few, counts_on}
+-- What comes are the marked numbers, and they are counted.
+use Rattle.std.proofs.Common.{◌∙◌, ap, inl, length, arith}
+use Rattle.std.proofs.lemmas.Iterator.Consumers.{YieldsList-from_first, count_from_yields_List}
+use Rattle.bits.specs.Numbers.{members_on}
+use Rattle.questions.proofs.Writing.{all_members, few}
 use Rattle.questions.proofs.listing.count.Goals as goal
 
-pub loop-k-init : goal.loop-k-init
-loop-k-init c = begins_count c.args.marks.now c.next-k.result c.requires c.next-k.ensures
+pub count-requires-clause-fits : goal.count-requires-clause-fits
+count-requires-clause-fits c = inl (omega (arith, ap length c.members.ensures, few c.args.marks.now 4096 0))
 
-pub overflow_add-n : goal.overflow_add-n
-overflow_add-n c = let h = few c.args.marks.now c.loop-k.n c.loop-k.k c.loop-k.invariant in record { fits = omega arith }
-
-pub loop-k-preserved : goal.loop-k-preserved
-loop-k-preserved c =
-    counts_on c.args.marks.now c.loop-k.n c.loop-k.k c.loop-k.invariant c.loop-k-test.true c.next-k-in-loop-k.result c.next-k-in-loop-k.ensures
+pub returns : goal.returns
+returns c =
+    count_from_yields_List c.members.result c.count.result c.count.ensures.ran
+    (YieldsList-from_first (λ x. x) (λ s. members_on s.map.now s.next) _ c.members.ensures)
+    ∙ ap length (all_members c.args.marks.now)

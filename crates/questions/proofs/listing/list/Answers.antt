@@ -1,25 +1,41 @@
--- The walk goes from mark to mark, holds the rest of its word, and writes the number of each.
-use Rattle.std.proofs.Common.{refl}
-use Rattle.questions.proofs.Writing.{begins, place_in, writes, written}
+-- What has come stands in front, and the cells behind it are as they were.
+use Rattle.std.proofs.Common.{ℕ, List, ◌++◌, ◌<◌, ap, ◌∙◌, drop, length, length-append, arith}
+use Rattle.questions.specs.Asking.{numbers_in_order}
+use Rattle.questions.proofs.Writing.{turn, end, one_more}
 use Rattle.questions.proofs.listing.list.Goals as goal
 
-pub loop-s-init : goal.loop-s-init
-loop-s-init c = record {
-  written = begins c.args.marks.now c.args.out.now c.first-s.result.at c.requires.number_set c.requires.rule_numbers_in_bounds c.first-s.ensures.first;
-  left = c.first-s.ensures.left;
-}
+pub overflow_cast-out : goal.overflow_cast-out
+overflow_cast-out c =
+    let l = c.loop-number in
+    let t = turn c.args.marks.now c.members-number-items.result c.into_iter-number-iterator.result c.members-number-items.ensures
+    c.into_iter-number-iterator.ensures.into_iter_gives l.yielded l.number-iterator l.yielded_by c.next.result c.next.new.self c.next.ensures.steps
+    c.in-Some.number c.in-Some.is in
+    omega (arith, t.1)
 
 pub bounds-out-n : goal.bounds-out-n
 bounds-out-n c =
-    place_in c.args.marks.now c.args.out.now c.loop-s.out c.loop-s.n c.loop-s.s.at c.loop-s.invariant.written c.loop-s-test.true
+    let l = c.loop-number in
+    let t = turn c.args.marks.now c.members-number-items.result c.into_iter-number-iterator.result c.members-number-items.ensures
+    c.into_iter-number-iterator.ensures.into_iter_gives l.yielded l.number-iterator l.yielded_by c.next.result c.next.new.self c.next.ensures.steps
+    c.in-Some.number c.in-Some.is in
+    omega (arith, t.0, l.auto.out)
 
-pub loop-s-preserved : goal.loop-s-preserved
-loop-s-preserved c = record {
-  written = writes c.args.marks.now c.args.out.now c.loop-s.out c.loop-s.n c.loop-s.s.at c.loop-s.invariant.written c.loop-s-test.true
-      c.after-s.result.at c.loop-s.s.at refl c.after-s.ensures.first;
-  left = c.after-s.ensures.left;
-}
+pub loop-number-preserved : goal.loop-number-preserved
+loop-number-preserved c =
+    let l = c.loop-number in
+    let t = turn c.args.marks.now c.members-number-items.result c.into_iter-number-iterator.result c.members-number-items.ensures
+    c.into_iter-number-iterator.ensures.into_iter_gives l.yielded l.number-iterator l.yielded_by c.next.result c.next.new.self c.next.ensures.steps
+    c.in-Some.number c.in-Some.is in
+    let room : l.n < length c.args.out.now = omega (arith, t.0) in
+    record {
+      count = omega (arith, length-append {A = ℕ});
+      is = one_more l.yielded c.args.out.now l.out l.n c.in-Some.number l.invariant.count room l.invariant.is;
+    }
 
 pub returns : goal.returns
-returns c =
-    written c.args.marks.now c.args.out.now c.loop-s.out c.loop-s.n c.loop-s.s.at c.loop-s.invariant.written c.loop-s-test.false
+unfolding numbers_in_order
+returns c rules =
+    let l = c.loop-number in
+    let all = end c.args.marks.now c.members-number-items.result c.into_iter-number-iterator.result c.members-number-items.ensures
+    c.into_iter-number-iterator.ensures.into_iter_gives l.yielded l.number-iterator l.yielded_by c.next.result c.next.new.self c.next.ensures.steps c.in-None.is in
+    record { count = l.invariant.count ∙ ap length all; is = l.invariant.is ∙ ap (λ (z : List ℕ). z ++ drop l.n c.args.out.now) all }

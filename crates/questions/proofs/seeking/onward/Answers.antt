@@ -4,7 +4,7 @@ use Rattle.links.specs.Words.{cell_of}
 use Rattle.questions.specs.Promises.{Reach}
 use Rattle.questions.proofs.Leaps.{up_to_it}
 use Rattle.questions.proofs.seeking.onward.Goals as goal
-use Rattle.questions.proofs.seeking.onward.Goals.{then-cell-lt-MARK+else-cell_of-cell, else-cell-lt-MARK}
+use Rattle.questions.proofs.seeking.onward.Goals.{else-cell-lt-MARK-via-then-cell-lt-MARK+else-cell_of-cell, else-cell-lt-MARK-via-else-cell-lt-MARK}
 
 past : (cell r c : ℕ) → r ≡ c → cell ≤ r → ¬ (c ≡ cell) → Reach cell c 32768
 past cell r c e h n = record { low = omega arith; between = λ k l m d. n (omega arith) }
@@ -18,6 +18,6 @@ returns-then-cell_of-cell c = record { most = c.args.cell; reach = up_to_it c.ar
 pub returns : goal.returns
 returns c = record {
   most = 32768;
-  reach = elim c.if-cell-lt-MARK.branch [ then-cell-lt-MARK+else-cell_of-cell w ↦ past c.args.cell w.cell_of.result (cell_of c.args.w) w.cell_of.ensures w.if-cell_of-cell.false c.requires.fact | else-cell-lt-MARK w ↦ no_symbol c.args.cell (cell_of c.args.w) w.if-cell-lt-MARK.false ];
+  reach = elim c.else-cell-lt-MARK.branch [ else-cell-lt-MARK-via-then-cell-lt-MARK+else-cell_of-cell w ↦ past c.args.cell w.cell_of.result (cell_of c.args.w) w.cell_of.ensures w.if-cell_of-cell.false c.requires.not_it | else-cell-lt-MARK-via-else-cell-lt-MARK w ↦ no_symbol c.args.cell (cell_of c.args.w) w.if-cell-lt-MARK.false ];
   on = c.to_last.ensures;
 }

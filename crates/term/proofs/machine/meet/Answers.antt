@@ -6,27 +6,22 @@ use Rattle.term.proofs.machine.meet.Goals as goal
 pub returns-then-c-d : goal.returns-then-c-d
 returns-then-c-d c = same_cell_is _ _ _ _ _ (omega arith) c.if-c-d.true
 
-pub returns-then-c-ge-MARK : goal.returns-then-c-ge-MARK
-returns-then-c-ge-MARK c = blank_blank _ _ _ _ _ (omega arith) c.if-d-ge-MARK.true c.if-c-ge-MARK.true
+pub returns-in-true-true : goal.returns-in-true-true
+returns-in-true-true c = blank_blank _ _ _ _ _ (omega arith) c.in-true-true.is-1 c.in-true-true.is-0
 
-pub returns-then-fills_question : goal.returns-then-fills_question
-returns-then-fills_question c =
-    fill_question _ _ _ _ _ (omega arith) c.if-d-ge-MARK.true c.if-c-ge-MARK.false _ c.arity.ensures c.if-fills_question.true
+pub returns-in-false-true : goal.returns-in-false-true
+returns-in-false-true c =
+    fill_question _ _ _ _ _ (omega arith) c.in-false-true.is-1 c.in-false-true.is-0 _ c.arity-in-false-true.ensures c.if-fills_question.true
 
-pub returns-then-d-ge-MARK : goal.returns-then-d-ge-MARK
-returns-then-d-ge-MARK c =
-    rw c.failed.ensures (keep_question _ _ _ _ _ (omega arith) c.if-d-ge-MARK.true c.if-c-ge-MARK.false c.if-fills_question.false)
+pub returns-in-true-false : goal.returns-in-true-false
+returns-in-true-false c =
+    fill_rule _ _ _ _ _ (omega arith) c.in-true-false.is-1 c.in-true-false.is-0 _ _ c.arity.ensures.0 c.past.ensures c.if-fills_rule.true
 
-pub returns-then-fills_rule : goal.returns-then-fills_rule
-returns-then-fills_rule c =
-    fill_rule _ _ _ _ _ (omega arith) c.if-d-ge-MARK.false c.if-c-ge-MARK-2.true _ _ c.arity-then-fills_rule.ensures.0 c.past.ensures
-    c.if-fills_rule.true
+pub returns-in_default-2 : goal.returns-in_default-2
+returns-in_default-2 c = keep_rule _ _ _ _ _ (omega arith) c.in-true-false.is-1 c.in-true-false.is-0 c.if-fills_rule.false
 
-pub returns-then-c-ge-MARK-2 : goal.returns-then-c-ge-MARK-2
-returns-then-c-ge-MARK-2 c =
-    rw c.failed-then-c-ge-MARK-2.ensures
-    (keep_rule _ _ _ _ _ (omega arith) c.if-d-ge-MARK.false c.if-c-ge-MARK-2.true c.if-fills_rule.false)
+pub returns-in_default-2-2 : goal.returns-in_default-2-2
+returns-in_default-2-2 c = keep_question _ _ _ _ _ (omega arith) c.in-false-true.is-1 c.in-false-true.is-0 c.if-fills_question.false
 
-pub returns : goal.returns
-returns c =
-    rw c.failed-2.ensures (other_symbol _ _ _ _ _ (omega arith) c.if-d-ge-MARK.false c.if-c-ge-MARK-2.false c.if-c-d.false)
+pub returns-in_default-2-3 : goal.returns-in_default-2-3
+returns-in_default-2-3 c = other_symbol _ _ _ _ _ (omega arith) c.in_default-2.is-1 c.in_default-2.is-0 c.if-c-d.false

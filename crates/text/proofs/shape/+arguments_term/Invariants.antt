@@ -4,7 +4,7 @@ use Rattle.std.proofs.Common.{◌+◌, ◌-◌, ◌*◌}
 use Rattle.text.proofs.shape.+arguments_term.Given as goal
 
 abbrev pub decreases-arguments : goal.decreases-arguments
-decreases-arguments l = 2 * (32 - l.from) + 1
+decreases-arguments l = 2 * (32 - l.notes.now.size) + 1
 
 abbrev pub decreases-term : goal.decreases-term
-decreases-term l = 2 * (32 - l.from)
+decreases-term l = 2 * (32 - l.notes.now.size)

@@ -1,18 +1,13 @@
 -- Each way out is one case of the definition.
-use Rattle.text.proofs.Beginning.{after_fault, after_comma, after_close, after_none}
+use Rattle.std.proofs.Common.{rules}
+use Rattle.text.proofs.Beginning.{after_comma, after_close, after_none}
 use Rattle.text.proofs.shape.follow.Goals as goal
 
-pub returns-then-fault-ne0-clause-is : goal.returns-then-fault-ne0-clause-is
-returns-then-fault-ne0-clause-is c = after_fault _ c.args.at _ c.requires c.if-fault-ne0.true
+pub returns-in-44 : goal.returns-in-44
+returns-in-44 c = after_comma _ c.args.at _ _ c.gap-next.ensures c.first.ensures c.in-44.is
 
-pub returns-then-byte-eq44-clause-is : goal.returns-then-byte-eq44-clause-is
-returns-then-byte-eq44-clause-is c =
-    after_comma _ c.args.at _ _ _ c.if-fault-ne0.false c.gap-next.ensures c.first-byte.ensures c.if-byte-eq44.true
+pub returns-in-41 : goal.returns-in-41
+returns-in-41 c = after_close _ c.args.at _ _ c.gap-next.ensures c.first.ensures c.in-41.is
 
-pub returns-then-byte-eq41-clause-is : goal.returns-then-byte-eq41-clause-is
-returns-then-byte-eq41-clause-is c =
-    after_close _ c.args.at _ _ _ c.if-fault-ne0.false c.gap-next.ensures c.first-byte.ensures c.if-byte-eq44.false c.if-byte-eq41.true
-
-pub returns-clause-is : goal.returns-clause-is
-returns-clause-is c =
-    after_none _ c.args.at _ _ _ c.if-fault-ne0.false c.gap-next.ensures c.first-byte.ensures c.if-byte-eq44.false c.if-byte-eq41.false
+pub returns-in_default : goal.returns-in_default
+returns-in_default c = after_none _ c.args.at _ _ c.gap-next.ensures c.first.ensures (search rules) (search rules)

@@ -1,9 +1,0 @@
--- The slots that the chain passes by have another bucket, and those on it are compared; it goes down, so it ends.
-use Rattle.names.proofs.Indexing.{Chain}
-use Rattle.names.proofs.index.find_in.Given as goal
-
-abbrev pub invariant-loop-next : goal.invariant-loop-next
-invariant-loop-next l = Chain l.table l.held l.name l.bucket l.next
-
-abbrev pub decreases-loop-next : goal.decreases-loop-next
-decreases-loop-next l = l.next
