@@ -7,25 +7,19 @@ use Rattle.questions.proofs.listing.list.Goals as goal
 pub overflow_cast-out : goal.overflow_cast-out
 overflow_cast-out c =
     let l = c.loop-number in
-    let t = turn c.args.marks.now c.members-number-items.result c.into_iter-number-iterator.result c.members-number-items.ensures
-    c.into_iter-number-iterator.ensures.into_iter_gives l.yielded l.number-iterator l.yielded_by c.next.result c.next.new.self c.next.ensures.steps
-    c.in-Some.number c.in-Some.is in
+    let t = turn _ _ _ c.members-number-items.ensures c.into_iter-number-iterator.ensures.into_iter_gives _ _ l.yielded_by _ c.next.new.self c.next.ensures.steps _ c.in-Some.is in
     omega (arith, t.1)
 
 pub bounds-out-n : goal.bounds-out-n
 bounds-out-n c =
     let l = c.loop-number in
-    let t = turn c.args.marks.now c.members-number-items.result c.into_iter-number-iterator.result c.members-number-items.ensures
-    c.into_iter-number-iterator.ensures.into_iter_gives l.yielded l.number-iterator l.yielded_by c.next.result c.next.new.self c.next.ensures.steps
-    c.in-Some.number c.in-Some.is in
+    let t = turn _ _ _ c.members-number-items.ensures c.into_iter-number-iterator.ensures.into_iter_gives _ _ l.yielded_by _ c.next.new.self c.next.ensures.steps _ c.in-Some.is in
     omega (arith, t.0, l.auto.out)
 
 pub loop-number-preserved : goal.loop-number-preserved
 loop-number-preserved c =
     let l = c.loop-number in
-    let t = turn c.args.marks.now c.members-number-items.result c.into_iter-number-iterator.result c.members-number-items.ensures
-    c.into_iter-number-iterator.ensures.into_iter_gives l.yielded l.number-iterator l.yielded_by c.next.result c.next.new.self c.next.ensures.steps
-    c.in-Some.number c.in-Some.is in
+    let t = turn _ _ _ c.members-number-items.ensures c.into_iter-number-iterator.ensures.into_iter_gives _ _ l.yielded_by _ c.next.new.self c.next.ensures.steps _ c.in-Some.is in
     let room : l.n < length c.args.out.now = omega (arith, t.0) in
     record {
       count = omega (arith, length-append {A = ℕ});
@@ -36,6 +30,5 @@ pub returns : goal.returns
 unfolding numbers_in_order
 returns c rules =
     let l = c.loop-number in
-    let all = end c.args.marks.now c.members-number-items.result c.into_iter-number-iterator.result c.members-number-items.ensures
-    c.into_iter-number-iterator.ensures.into_iter_gives l.yielded l.number-iterator l.yielded_by c.next.result c.next.new.self c.next.ensures.steps c.in-None.is in
+    let all = end _ _ _ c.members-number-items.ensures c.into_iter-number-iterator.ensures.into_iter_gives _ _ l.yielded_by _ c.next.new.self c.next.ensures.steps c.in-None.is in
     record { count = l.invariant.count ∙ ap length all; is = l.invariant.is ∙ ap (λ (z : List ℕ). z ++ drop l.n c.args.out.now) all }
