@@ -27,7 +27,7 @@ use Rattle.questions.specs.Promises.{Asked, Lists}
 use Rattle.questions.specs.Listing.{marked_answers, marked_many}
 use Rattle.commands.specs.Records.{Record, bare, good}
 use Rattle.commands.specs.declared.reader.Command.{Command}
-use Rattle.commands.specs.declared.reader.Refusal.{Refusal}
+use Rattle.commands.specs.declared.reader.RefusedCommand.{RefusedCommand}
 use Rattle.commands.specs.declared.kinds.Act.{Act}
 use Rattle.commands.specs.Commands.{refusal_number, Read}
 use Rattle.commands.specs.Laws.{whole_behind}
@@ -154,20 +154,20 @@ show_some ws k it = go (rules_in ws k) refl
 
 -- ---- a command is done as it was read
 
-module _ (ws ws' out out' behind : List ℕ) (n : Option ℕ) (read : Result Command Refusal) where
+module _ (ws ws' out out' behind : List ℕ) (n : Option ℕ) (read : Result Command RefusedCommand) where
   pub acted : (c : Command) (act : Act) → read ≡ Ok c → c.act ≡ act → Does (acts act (rules_in ws) c.number (take c.size behind)) ws ws' out out' n
       → Does (does (rules_in ws) behind read) ws ws' out out' n
   acted c act e q d = subst (λ (x : Effect). Does x ws ws' out out' n)
       (sym (does_act (rules_in ws) behind read c e ∙ ap (λ (a : Act). acts a (rules_in ws) c.number (take c.size behind)) q)) d
 
-  pub stopped : (why : Refusal) (number : ℕ) → read ≡ Err why → number ≡ refusal_number why → Passing ws → Writes (bare number) out out' n
+  pub stopped : (refused : RefusedCommand) (number : ℕ) → read ≡ Err refused → number ≡ refusal_number refused.why → Passing ws → Writes (bare number) out out' n
       → Does (does (rules_in ws) behind read) ws ws out out' n
-  stopped why number e q p w = subst (λ (x : Effect). Does x ws ws out out' n)
-      (sym (does_stop (rules_in ws) behind read why e ∙ ap (λ (k : ℕ). tells (bare k) (rules_in ws)) (sym q))) (told ws out out' n (bare number) p w)
+  stopped refused number e q p w = subst (λ (x : Effect). Does x ws ws out out' n)
+      (sym (does_stop (rules_in ws) behind read refused e ∙ ap (λ (k : ℕ). tells (bare k) (rules_in ws)) (sym q))) (told ws out out' n (bare number) p w)
 
 -- the term behind a command is whole
-pub whole : (behind : List ℕ) (read : Result Command Refusal) (c : Command) (act : Act) → IfOk read (λ x. Read behind x) → read ≡ Ok c → c.act ≡ act → about_term act ≡ true
+pub whole : (behind : List ℕ) (read : Result Command RefusedCommand) (c : Command) (act : Act) → IfOk read (λ x. Read behind x) → read ≡ Ok c → c.act ≡ act → about_term act ≡ true
     → IsTerm (take c.size behind)
 whole behind read c act r e q a =
-    let known : Read behind c = subst (λ (x : Result Command Refusal). IfOk x (λ y. Read behind y)) e r in
+    let known : Read behind c = subst (λ (x : Result Command RefusedCommand). IfOk x (λ y. Read behind y)) e r in
     whole_behind behind c.size (known.whole (ap about_term q ∙ a))

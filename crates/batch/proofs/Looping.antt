@@ -10,7 +10,7 @@ use lib.Seq.{take-append-add, drop-append-add, drop-cons, drop-drop, length-take
 use borrow.Rule.Slice.PartMut.{put_mid, mid_of, same_len_mid}
 use Rattle.book.specs.Memory.{Passing, rules_in}
 use Rattle.commands.specs.declared.reader.Command.{Command}
-use Rattle.commands.specs.declared.reader.Refusal.{Refusal}
+use Rattle.commands.specs.declared.reader.RefusedCommand.{RefusedCommand}
 use Rattle.commands.specs.Commands.{refusal_number, command_of, command_in, Read}
 use Rattle.commands.specs.Laws.{first_cell}
 use Rattle.batch.specs.Effects.{does}
@@ -50,7 +50,7 @@ finished ws₀ ws cells out₀ out u w r h =
     moved ws₀ ws cells out₀ _ out 0 (u + 0) u (w + 0) w (take-append-drop w out) (omega arith) (omega arith) x
 
 -- where a command is read there is a cell, and where none is all cells are used
-pub some_left : (cells : List ℕ) (u : ℕ) (read : Result Command Refusal) → command_in (drop u cells) ≡ Some read → u < length cells
+pub some_left : (cells : List ℕ) (u : ℕ) (read : Result Command RefusedCommand) → command_in (drop u cells) ≡ Some read → u < length cells
 some_left cells u read e = go (dec_lt u (length cells))
   where
     go : Dec (u < length cells) → u < length cells
@@ -68,25 +68,25 @@ none_left cells u e = go (dec_lt u (length cells))
 behind_is : (cells : List ℕ) (u : ℕ) → take (length cells - (u + 1)) (drop (u + 1) cells) ≡ drop (u + 1) cells
 behind_is cells u = take_all (length cells - (u + 1)) (drop (u + 1) cells) (omega (arith, length-drop (u + 1) cells))
 
-pub read_is : (cells : List ℕ) (u : ℕ) (read : Result Command Refusal) → command_in (drop u cells) ≡ Some read
+pub read_is : (cells : List ℕ) (u : ℕ) (read : Result Command RefusedCommand) → command_in (drop u cells) ≡ Some read
     → IfOk read (λ c. Read (take (length cells - (u + 1)) (drop (u + 1) cells)) c)
 read_is cells u (Ok c) e = subst (λ (l : List ℕ). Read l c) (sym (behind_is cells u)) (read_at cells u (some_left cells u (Ok c) e) c e)
-read_is cells u (Err why) e = tt
+read_is cells u (Err refused) e = tt
 
 -- One turn: before it u cells are used and w written; a command was read and done, and wrote so many cells more.
-pub record Turn (ws₀ ws ws₁ cells out₀ out part₁ : List ℕ) (u w : ℕ) (n : Option ℕ) (read : Result Command Refusal) : Type 0 where
+pub record Turn (ws₀ ws ws₁ cells out₀ out part₁ : List ℕ) (u w : ℕ) (n : Option ℕ) (read : Result Command RefusedCommand) : Type 0 where
   pub running : Running ws₀ ws cells out₀ out u w
   pub reads : command_in (drop u cells) ≡ Some read
   pub done : Does (does (rules_in ws) (take (length cells - (u + 1)) (drop (u + 1) cells)) read) ws ws₁ (mid_of w (length out - w) out) part₁ n
   pub long : length part₁ ≡ length (mid_of w (length out - w) out)
 
-pub turn : {ws₀ ws ws₁ cells out₀ out part₁ : List ℕ} {u w : ℕ} {n : Option ℕ} {read : Result Command Refusal}
+pub turn : {ws₀ ws ws₁ cells out₀ out part₁ : List ℕ} {u w : ℕ} {n : Option ℕ} {read : Result Command RefusedCommand}
     → Running ws₀ ws cells out₀ out u w → command_in (drop u cells) ≡ Some read
     → Does (does (rules_in ws) (take (length cells - (u + 1)) (drop (u + 1) cells)) read) ws ws₁ (mid_of w (length out - w) out) part₁ n
     → length part₁ ≡ length (mid_of w (length out - w) out) → Turn ws₀ ws ws₁ cells out₀ out part₁ u w n read
 turn r s d l = record { running = r; reads = s; done = d; long = l }
 
-module _ {ws₀ ws ws₁ cells out₀ out part₁ : List ℕ} {u w : ℕ} {n : Option ℕ} {read : Result Command Refusal}
+module _ {ws₀ ws ws₁ cells out₀ out part₁ : List ℕ} {u w : ℕ} {n : Option ℕ} {read : Result Command RefusedCommand}
     (t : Turn ws₀ ws ws₁ cells out₀ out part₁ u w n read) where
   abbrev r : Running ws₀ ws cells out₀ out u w
   r = t.running
@@ -123,7 +123,7 @@ module _ {ws₀ ws ws₁ cells out₀ out part₁ : List ℕ} {u w : ℕ} {n : O
   is_command = let e = sym (first_cell cells u more) ∙ t.reads in cc
 
   done : Does (does (rules_in ws) behind (command_of c behind)) ws ws₁ (drop w out) part₁ n
-  done = subst (λ (x : Result Command Refusal). Does (does (rules_in ws) behind x) ws ws₁ (drop w out) part₁ n) (sym is_command)
+  done = subst (λ (x : Result Command RefusedCommand). Does (does (rules_in ws) behind x) ws ws₁ (drop w out) part₁ n) (sym is_command)
       (subst (λ (z : List ℕ). Does (does (rules_in ws) behind read) ws ws₁ z part₁ n) lent
       (subst (λ (z : List ℕ). Does (does (rules_in ws) z read) ws ws₁ (mid_of w (length out - w) out) part₁ n) (behind_is cells u) t.done))
 
@@ -137,10 +137,10 @@ module _ {ws₀ ws ws₁ cells out₀ out part₁ : List ℕ} {u w : ℕ} {n : O
 
   -- there is room
   module _ {k : ℕ} (z : n ≡ Some k) where
-    pub ends_with : (why : Refusal) → read ≡ Err why → Ran ws₀ ws₁ cells out₀ full (refusal_number why) u (w + k)
-    ends_with why e =
-        moved ws₀ ws₁ cells out₀ _ full (refusal_number why) (u + 0) u (w + k) (w + k) (sym full_is) (omega arith) refl
-        (from_here ws₁ part₁ (refusal_number why) 0 k (stops ws ws₁ behind (drop w out) part₁ c n done k z why (is_command ∙ e)))
+    pub ends_with : (refused : RefusedCommand) → read ≡ Err refused → Ran ws₀ ws₁ cells out₀ full (refusal_number refused.why) u (w + k)
+    ends_with refused e =
+        moved ws₀ ws₁ cells out₀ _ full (refusal_number refused.why) (u + 0) u (w + k) (w + k) (sym full_is) (omega arith) refl
+        (from_here ws₁ part₁ (refusal_number refused.why) 0 k (stops ws ws₁ behind (drop w out) part₁ c n done k z refused (is_command ∙ e)))
 
     pub fits_in : w + k ≤ length out
     fits_in = omega (arith, enough ws ws₁ behind (drop w out) part₁ c n done k z, length-drop w out, r.room)

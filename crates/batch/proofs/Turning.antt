@@ -11,7 +11,7 @@ use Rattle.book.specs.Rules.{Rules}
 use Rattle.book.specs.Memory.{Passing, rules_in}
 use Rattle.commands.specs.Records.{cells_of, written}
 use Rattle.commands.specs.declared.reader.Command.{Command}
-use Rattle.commands.specs.declared.reader.Refusal.{Refusal}
+use Rattle.commands.specs.declared.reader.RefusedCommand.{RefusedCommand}
 use Rattle.commands.specs.Commands.{refusal_number, command_of, command_size}
 use Rattle.batch.specs.Effects.{Change, Effect, does}
 use Rattle.batch.specs.Run.{Outcome, is_going_on, run}
@@ -34,7 +34,7 @@ all_used ws out p = subst (λ (o : Outcome). Came o ws ws out out 0 0 0) (sym (r
 -- ---- one command
 
 module _ (ws ws₁ behind out out₁ : List ℕ) (c : ℕ) (n : Option ℕ) where
-  abbrev command : Result Command Refusal
+  abbrev command : Result Command RefusedCommand
   command = command_of c behind
 
   abbrev e : Effect
@@ -81,10 +81,10 @@ module _ (ws ws₁ behind out out₁ : List ℕ) (c : ℕ) (n : Option ℕ) wher
       output : out₁ ≡ cells_of e.answer ++ drop k out
       output = (done.writes.fits fits).1 ∙ ap (λ (j : ℕ). cells_of e.answer ++ drop j out) wide
 
-      pub stops : (why : Refusal) → command ≡ Err why → Ran ws ws₁ (c ∷ behind) out out₁ (refusal_number why) 0 k
+      pub stops : (refused : RefusedCommand) → command ≡ Err refused → Ran ws ws₁ (c ∷ behind) out out₁ (refusal_number refused.why) 0 k
       unfolding written
-      stops why d =
-          subst (λ (o : Outcome). Came o ws ws₁ out out₁ (refusal_number why) 0 k) (sym (run_stops (rules_in ws) c behind (length out) why fits d))
+      stops refused d =
+          subst (λ (o : Outcome). Came o ws ws₁ out out₁ (refusal_number refused.why) 0 k) (sym (run_stops (rules_in ws) c behind (length out) refused fits d))
           (record {
             stop_is = refl;
             used_is = refl;

@@ -6,7 +6,7 @@ use Rattle.book.specs.declared.NotAdded.{NotAdded}
 use Rattle.questions.specs.Asking.{answers}
 use Rattle.commands.specs.Records.{Record, bare, good}
 use Rattle.commands.specs.declared.reader.Command.{Command}
-use Rattle.commands.specs.declared.reader.Refusal.{Refusal}
+use Rattle.commands.specs.declared.reader.RefusedCommand.{RefusedCommand}
 use Rattle.commands.specs.Commands.{refusal_number}
 use Rattle.commands.specs.declared.kinds.Act.{Act}
 use Rattle.commands.specs.declared.kinds.Act.TheVariants.{Add, Remove, Ask, Show, Room}
@@ -83,6 +83,6 @@ acts Show rules k term = shows rules k
 acts Room rules k term = counts rules
 
 -- What a command as it was read does, with the cells behind its command cell: a refused one only tells its refusal.
-unfoldable pub does : Rules → List ℕ → Result Command Refusal → Effect
+unfoldable pub does : Rules → List ℕ → Result Command RefusedCommand → Effect
 does rules behind (Ok c) = acts c.act rules c.number (take c.size behind)
-does rules behind (Err why) = tells (bare (refusal_number why)) rules
+does rules behind (Err refused) = tells (bare (refusal_number refused.why)) rules

@@ -5,7 +5,7 @@ use Rattle.std.proofs.Common.{◌∙◌, arith, lt-ltb, le-ltb}
 use Rattle.deciding.specs.Deciding.{pick}
 use Rattle.book.specs.Rules.{Rules}
 use Rattle.commands.specs.declared.reader.Command.{Command}
-use Rattle.commands.specs.declared.reader.Refusal.{Refusal}
+use Rattle.commands.specs.declared.reader.RefusedCommand.{RefusedCommand}
 use Rattle.commands.specs.Commands.{refusal_number, command_of, command_size}
 use Rattle.commands.specs.Records.{bare}
 use Rattle.batch.specs.Effects.{Change, Effect, tells, acts, does}
@@ -14,22 +14,22 @@ use Rattle.batch.specs.Promises.{Along, none, then}
 
 -- ---- a command that stops the batch, and one that goes on
 
-module _ (rules : Rules) (behind : List ℕ) (read : Result Command Refusal) where
-  pub does_stop : (why : Refusal) → read ≡ Err why → does rules behind read ≡ tells (bare (refusal_number why)) rules
+module _ (rules : Rules) (behind : List ℕ) (read : Result Command RefusedCommand) where
+  pub does_stop : (refused : RefusedCommand) → read ≡ Err refused → does rules behind read ≡ tells (bare (refusal_number refused.why)) rules
   unfolding does
-  does_stop why e = ap (does rules behind) e
+  does_stop refused e = ap (does rules behind) e
 
   pub does_act : (c : Command) → read ≡ Ok c → does rules behind read ≡ acts c.act rules c.number (take c.size behind)
   unfolding does
   does_act c e = ap (does rules behind) e
 
 -- what holds of each act and of each refusal holds of what a command does
-pub any_effect : (rules : Rules) (behind : List ℕ) (read : Result Command Refusal) (P : Effect → Type 0)
-    → ((c : Command) → P (acts c.act rules c.number (take c.size behind))) → ((why : Refusal) → P (tells (bare (refusal_number why)) rules))
+pub any_effect : (rules : Rules) (behind : List ℕ) (read : Result Command RefusedCommand) (P : Effect → Type 0)
+    → ((c : Command) → P (acts c.act rules c.number (take c.size behind))) → ((refused : RefusedCommand) → P (tells (bare (refusal_number refused.why)) rules))
     → P (does rules behind read)
 unfolding does
 any_effect rules behind (Ok c) P a t = a c
-any_effect rules behind (Err why) P a t = t why
+any_effect rules behind (Err refused) P a t = t refused
 
 -- ---- a batch, command by command
 
@@ -47,7 +47,7 @@ run_none rules room = refl
 
 module _ (rules : Rules) (c : ℕ) (behind : List ℕ) (room : ℕ) where
   -- the first command, what it does, and the batch behind it
-  abbrev pub command : Result Command Refusal
+  abbrev pub command : Result Command RefusedCommand
   command = command_of c behind
 
   abbrev pub effect : Effect
@@ -69,12 +69,12 @@ module _ (rules : Rules) (c : ℕ) (behind : List ℕ) (room : ℕ) where
   fits : length effect.answer.cells < room → run rules (c ∷ behind) room ≡ one_fits command effect later
   fits h = one ∙ ap (λ (b : Bool). pick b (one_fits command effect later) (ends 10 rules)) (lt-ltb (length effect.answer.cells) room h)
 
-  pub run_stops : (why : Refusal) → length effect.answer.cells < room → command ≡ Err why → run rules (c ∷ behind) room ≡ ends_with (refusal_number why) effect
-  run_stops why h e = fits h ∙ ap (λ (r : Result Command Refusal). one_fits r effect later) e
+  pub run_stops : (refused : RefusedCommand) → length effect.answer.cells < room → command ≡ Err refused → run rules (c ∷ behind) room ≡ ends_with (refusal_number refused.why) effect
+  run_stops refused h e = fits h ∙ ap (λ (r : Result Command RefusedCommand). one_fits r effect later) e
 
   pub run_goes_on : (first : Command) → length effect.answer.cells < room → command ≡ Ok first → run rules (c ∷ behind) room ≡ is_going_on (suc first.size) effect rest
   run_goes_on first h e =
-      fits h ∙ ap (λ (r : Result Command Refusal). one_fits r effect later) e
+      fits h ∙ ap (λ (r : Result Command RefusedCommand). one_fits r effect later) e
       ∙ ap (is_going_on (suc first.size) effect) (skipped (command_size command) effect.rules behind (room - suc (length effect.answer.cells)))
 
 -- ---- memories along changes

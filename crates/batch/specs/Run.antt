@@ -4,7 +4,7 @@ use Rattle.deciding.specs.Deciding.{pick}
 use Rattle.book.specs.Rules.{Rules}
 use Rattle.commands.specs.Records.{Record}
 use Rattle.commands.specs.declared.reader.Command.{Command}
-use Rattle.commands.specs.declared.reader.Refusal.{Refusal}
+use Rattle.commands.specs.declared.reader.RefusedCommand.{RefusedCommand}
 use Rattle.commands.specs.Commands.{refusal_number, command_of, command_size}
 use Rattle.batch.specs.Effects.{Change, Effect, does}
 use Rattle.batch.specs.declared.Stop.{Stop}
@@ -49,12 +49,12 @@ is_going_on size e rest = record {
 }
 
 -- One command as it was read, with its effect, where there is room for its record: a refused one stops the batch.
-abbrev pub one_fits : Result Command Refusal → Effect → Outcome → Outcome
+abbrev pub one_fits : Result Command RefusedCommand → Effect → Outcome → Outcome
 one_fits (Ok c) e rest = is_going_on (suc c.size) e rest
-one_fits (Err why) e rest = ends_with (refusal_number why) e
+one_fits (Err refused) e rest = ends_with (refusal_number refused.why) e
 
 -- The same where there is room for so many cells. 10 replaces any record that does not fit.
-abbrev pub one_of : Rules → ℕ → Result Command Refusal → Effect → Outcome → Outcome
+abbrev pub one_of : Rules → ℕ → Result Command RefusedCommand → Effect → Outcome → Outcome
 one_of rules room read e rest = pick (ltb (length e.answer.cells) room) (one_fits read e rest) (ends 10 rules)
 
 -- The commands in turn; so many cells, those of a term that was read, are passed over first.

@@ -11,11 +11,12 @@ ghost use Rattle.book.specs.Memory.{Passing, rules_in};
 ghost use Rattle.commands.specs.Commands.{Read};
 ghost use Rattle.batch.specs.Effects.{does};
 ghost use Rattle.batch.specs.Run.{stop_number, stop_of};
+ghost use Rattle.batch.specs.Stopping.{Because};
 ghost use Rattle.batch.specs.Promises.{Does, Ran, Runs};
 
 use commands::kinds::Act;
 use commands::reader;
-use commands::reader::{Command, Refusal};
+use commands::reader::{Command, Refusal, RefusedCommand};
 use commands::records::put_bare;
 use std::error::Error;
 use std::fmt;
@@ -68,7 +69,7 @@ pub struct Ended {
 // memory for a question to work in.
 fn do_command(
     book: &mut [u64],
-    read: Result<Command, Refusal>,
+    read: Result<Command, RefusedCommand>,
     behind: &[u16],
     marks: &mut [u64],
     out: &mut [u16],
@@ -80,7 +81,7 @@ fn do_command(
 {
     let command = match read {
         Ok(command) => command,
-        Err(refusal) => return put_bare(u64::from(refusal), out),
+        Err(refused) => return put_bare(u64::from(refused.why), out),
     };
     let number = command.number;
     let term = &behind[..command.size];
@@ -98,7 +99,8 @@ fn do_command(
 // The commands in turn, on a book that passes. The marks are made once, since no question minds what an earlier one left there.
 fn run_commands(book: &mut [u64], commands: &[u16], output: &mut [u16]) -> Ended
     requires { Passing book.old }
-    ensures { Ran book.old book.new commands.now output.old output.new (stop_of result.stop) result.used result.written }
+    ensures ran { Ran book.old book.new commands.now output.old output.new (stop_of result.stop) result.used result.written }
+    ensures why { Because commands.now result.used result.stop }
 {
     let mut marks = [0; 65];
     let mut used = 0;
@@ -115,9 +117,9 @@ fn run_commands(book: &mut [u64], commands: &[u16], output: &mut [u16]) -> Ended
         written += n;
         match read {
             Ok(command) => used += 1 + command.size,
-            Err(refusal) => {
+            Err(refused) => {
                 return Ended {
-                    stop: Some(Stop::Refused(refusal)),
+                    stop: Some(Stop::Refused(refused.why)),
                     used,
                     written,
                 };
@@ -133,7 +135,8 @@ fn run_commands(book: &mut [u64], commands: &[u16], output: &mut [u16]) -> Ended
 
 // A batch, for any memory, any cells and any room.
 pub fn run(book: &mut [u64], commands: &[u16], output: &mut [u16]) -> Ended
-    ensures { Runs book.old book.new commands.now output.old output.new (stop_of result.stop) result.used result.written }
+    ensures runs { Runs book.old book.new commands.now output.old output.new (stop_of result.stop) result.used result.written }
+    ensures why { Because commands.now result.used result.stop }
 {
     if !passing::passes(book) {
         return Ended {

@@ -1,13 +1,14 @@
 -- A list that is written place by place, from the first on, is in the end what was to be written.
-use Rattle.std.specs.Prelude.{◌≡◌, refl, List, ◌++◌, ℕ, zero, suc, ◌+◌, ◌-◌, ◌*◌, ◌/◌, ◌%◌, ◌≤◌, ◌<◌, length, get_or, set, replicate}
-use Rattle.std.proofs.Common.{sym, ap, ◌∙◌, arith, length-set, length-append, ext_get_or, get_or-set_same, get_or-set_other, get_or-append-add}
+use Rattle.std.specs.Prelude.{◌≡◌, refl, List, [], ◌∷◌, ◌++◌, map, ℕ, zero, suc, ◌+◌, ◌-◌, ◌*◌, ◌/◌, ◌%◌, ◌≤◌, ◌<◌, length, get_or, set, take, replicate}
+use Rattle.std.proofs.Common.{sym, ap, ◌∙◌, arith, length-set, length-append, length-take, ext_get_or, get_or-set_same, get_or-set_other, get_or-append-add, get_or-take}
 use Rattle.std.proofs.Math.Decide.{ℕ_discrete, dec_lt}
-use Rattle.std.proofs.lemmas.List.{length-replicate}
+use Rattle.std.proofs.lemmas.List.{length-replicate, length-map}
 use Rattle.std.proofs.lemmas.List.Edits.{fill_by_more}
 use Rattle.std.proofs.Math.ListN.{get_or-append, get_or-eq_default}
 use Rattle.layout.specs.Layout.{term_words}
 use Rattle.bits.specs.Packed.{parts, fields}
 use Rattle.bits.specs.Laws.{length_unpack, parts_zero, at_word}
+use Rattle.book.specs.Memory.{blank_number, form_of}
 
 -- the places below i have what g says
 abbrev pub Filled : List ℕ → ℕ → (ℕ → ℕ) → Type 0
@@ -93,6 +94,37 @@ padded t n k = go (dec_lt k (length t))
 
 pub padded_long : (t : List ℕ) → length t ≤ 32 → length (t ++ replicate (32 - length t) 0) ≡ 32
 padded_long t h = length-append t (replicate (32 - length t) 0) ∙ omega (arith, length-replicate {A = ℕ} (32 - length t) 0)
+
+-- blank cells, and then one number
+get_map : (f : ℕ → ℕ) (t : List ℕ) (k : ℕ) → k < length t → get_or (map f t) k 0 ≡ f (get_or t k 0)
+get_map f [] k h = absurd (omega arith)
+get_map f (c ∷ t) zero h = refl
+get_map f (c ∷ t) (suc k) h = get_map f t k (omega arith)
+
+pub rowed : (cells row : List ℕ) (size n : ℕ) → size ≤ length cells → length row ≡ 33 → size ≤ 32
+    → Filled row size (λ k. blank_number (get_or cells k 0)) → ((k : ℕ) → size ≤ k → k < 33 → get_or row k 0 ≡ n)
+    → take (size + 1) row ≡ form_of (take size cells) ++ (n ∷ [])
+rowed cells row size n h e s f g = ext_get_or 0 (take (size + 1) row) (form_of (take size cells) ++ (n ∷ [])) long
+    (λ k b. get_or-take (size + 1) row k 0 (below k b) ∙ go k b (dec_lt k size))
+  where
+    form_long : length (form_of (take size cells)) ≡ size
+    form_long = length-map (take size cells) blank_number ∙ omega (arith, length-take size cells)
+
+    long : length (take (size + 1) row) ≡ length (form_of (take size cells) ++ (n ∷ []))
+    long = omega (arith, length-take (size + 1) row, length-append (form_of (take size cells)) (n ∷ []), form_long)
+
+    below : (k : ℕ) → k < length (take (size + 1) row) → k < size + 1
+    below k b = omega (arith, length-take (size + 1) row)
+
+    go : (k : ℕ) → k < length (take (size + 1) row) → Dec (k < size) → get_or row k 0 ≡ get_or (form_of (take size cells) ++ (n ∷ [])) k 0
+    go k b (yes l) =
+        f k l ∙ ap blank_number (sym (get_or-take size cells k 0 l)) ∙ sym (get_map blank_number (take size cells) k (omega (arith, length-take size cells)))
+        ∙ sym (get_or-append (form_of (take size cells)) (n ∷ []) 0 k (omega (arith, form_long)))
+    go k b (no l) =
+        let q : k ≡ size = let z = below k b in omega arith in
+        let w : k ≡ length (form_of (take size cells)) + 0 = omega (arith, form_long) in
+        g k (omega arith) (let z = below k b in omega arith)
+        ∙ sym (ap (λ (z : ℕ). get_or (form_of (take size cells) ++ (n ∷ [])) z 0) w ∙ get_or-append-add (form_of (take size cells)) (n ∷ []) 0 0)
 
 -- ---- four cells at a time, and zeros behind them
 

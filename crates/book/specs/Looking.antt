@@ -1,6 +1,6 @@
 -- What the code reads of memory is what the view says.
-use Rattle.std.specs.Prelude.{◌≡◌, refl, List, Bool, true, false, ℕ, suc, ◌+◌, ◌≤◌, ◌<◌, eqb, ltb, length, get_or, take, drop}
-use Rattle.std.proofs.Common.{sym, ap, ap₂, ◌∙◌, subst, arith, lt-ltb, le-ltb, length-take, length-drop, ext_get_or, get_or-take, get_or-drop}
+use Rattle.std.specs.Prelude.{◌≡◌, refl, List, Bool, true, false, ℕ, suc, ◌+◌, ◌≤◌, ◌<◌, eqb, ltb, length, get_or, take, drop, Some, None}
+use Rattle.std.proofs.Common.{sym, ap, ap₂, ◌∙◌, subst, arith, lt-ltb, le-ltb, eq-eqb, ne_eqb, length-take, length-drop, ext_get_or, get_or-take, get_or-drop}
 use Rattle.deciding.specs.Deciding.{both}
 use Rattle.layout.specs.Layout.{node_map_words, rule_map_words, nodes_limit, rules_limit, rule_map_at, links_at, rules_at, last_link, tree_words, book_words}
 use Rattle.bits.specs.Packed.{bits, sum}
@@ -10,7 +10,7 @@ use Rattle.links.specs.Limits.{rule_bit, nodes_held, rules_held, used_low}
 use Rattle.shape.specs.Shape.{Used}
 use Rattle.book.specs.Memory.{view, taken, number, held_at, Passing, rules_in}
 use Rattle.book.specs.Holding.{rules_tally, nodes_tally, count_tally}
-use Rattle.book.specs.Promises.{Counts}
+use Rattle.book.specs.Promises.{place_of, Counts}
 
 -- a window inside the tree's words
 pub inside : (ws : List ℕ) (b n : ℕ) → b + n ≤ tree_words → take n (drop b (take tree_words ws)) ≡ take n (drop b ws)
@@ -71,6 +71,12 @@ module _ (ws : List ℕ) (k r : ℕ) (e : r ≡ (view ws).place k) where
     pub same_number : b ≡ true → (c n : ℕ) → c ≡ cell_of (get_or ws (rules_at + r) 0) → n ≡ k → eqb c n ≡ held_at (view ws) k
     same_number q c n g s = held_is true true (eqb c n) low (is_taken ∙ q)
         (ap₂ eqb (ap (number (view ws)) (sym e) ∙ sym (rule_number ws r h) ∙ sym g) (sym s))
+
+    pub other_number : b ≡ true → (c : ℕ) → c ≡ cell_of (get_or ws (rules_at + r) 0) → ¬ (c ≡ k) → place_of (view ws) k ≡ None
+    other_number q c g d = rw (sym (same_number q c k g refl) ∙ ne_eqb c k d) refl
+
+    pub found : b ≡ true → (c : ℕ) → c ≡ cell_of (get_or ws (rules_at + r) 0) → c ≡ k → place_of (view ws) k ≡ Some r
+    found q c g d = rw (sym (same_number q c k g refl) ∙ eq-eqb c k d) (ap Some (sym e))
 
 -- the two counts
 pub counted : (ws : List ℕ) (rules nodes : ℕ) → Passing ws → nodes ≡ sum (bits (take node_map_words ws))

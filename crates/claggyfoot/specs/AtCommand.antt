@@ -17,7 +17,7 @@ use Rattle.questions.specs.Demand2.{never_more}
 use Rattle.commands.specs.Records.{Record, bare, written}
 use Rattle.commands.specs.declared.reader.Command.{Command}
 use Rattle.commands.specs.declared.kinds.Act.{Act}
-use Rattle.commands.specs.declared.reader.Refusal.{Refusal}
+use Rattle.commands.specs.declared.reader.RefusedCommand.{RefusedCommand}
 use Rattle.commands.specs.declared.kinds.Act.TheVariants.{Add, Remove, Ask, Show, Room}
 use Rattle.commands.specs.Kinds.{mode_of, kind_at}
 use Rattle.commands.specs.Commands.{command_of, command_refusal}
@@ -63,7 +63,7 @@ shown_bare : (h : Held) → ¬ ((shown h).refusal ≡ 0) → shown h ≡ bare (s
 shown_bare nothing n = refl
 shown_bare (rule r) n = absurd (n refl)
 
-pub refused_bare : (rules : Rules) (behind : List ℕ) (x : Result Command Refusal) → ¬ ((does rules behind x).answer.refusal ≡ 0)
+pub refused_bare : (rules : Rules) (behind : List ℕ) (x : Result Command RefusedCommand) → ¬ ((does rules behind x).answer.refusal ≡ 0)
     → (does rules behind x).answer ≡ bare (does rules behind x).answer.refusal
 refused_bare rules behind x = any_effect rules behind x (λ e. ¬ (e.answer.refusal ≡ 0) → e.answer ≡ bare e.answer.refusal)
     (λ c. go c.act c.number (take c.size behind)) (λ why n. refl)
@@ -76,7 +76,7 @@ refused_bare rules behind x = any_effect rules behind x (λ e. ¬ (e.answer.refu
     go Room k t n = absurd (n refl)
 
 -- a record's count has room in its 12 bits
-short_record : (rules : Rules) → Limited rules → (behind : List ℕ) (x : Result Command Refusal) → length (does rules behind x).answer.cells < 4096
+short_record : (rules : Rules) → Limited rules → (behind : List ℕ) (x : Result Command RefusedCommand) → length (does rules behind x).answer.cells < 4096
 short_record rules l behind x = any_effect rules behind x (λ e. length e.answer.cells < 4096) (λ c. go c.act c.number (take c.size behind)) (λ why. omega arith)
   where
     showing : (k : ℕ) (h : Held) → rules k ≡ h → length (shown h).cells < 4096
@@ -90,16 +90,16 @@ short_record rules l behind x = any_effect rules behind x (λ e. length e.answer
     go Show k t = showing k (rules k) refl
     go Room k t = omega arith
 
-low_stop : (x : Result Command Refusal) → command_refusal x ≤ 5
+low_stop : (x : Result Command RefusedCommand) → command_refusal x ≤ 5
 low_stop (Ok c) = omega arith
-low_stop (Err why) = low_refusal why
+low_stop (Err refused) = low_refusal refused.why
 
 -- a command that stops the batch only tells with which number
-pub does_stops : (rules : Rules) (behind : List ℕ) (x : Result Command Refusal) (r : ℕ) → ¬ (r ≡ 0) → command_refusal x ≡ r → does rules behind x ≡ tells (bare r) rules
+pub does_stops : (rules : Rules) (behind : List ℕ) (x : Result Command RefusedCommand) (r : ℕ) → ¬ (r ≡ 0) → command_refusal x ≡ r → does rules behind x ≡ tells (bare r) rules
 does_stops rules behind x r n e = stop_tells rules behind x (λ z. n (sym e ∙ z)) ∙ ap (λ (j : ℕ). tells (bare j) rules) e
 
 -- what a refused command does: it tells its refusal, and nothing else
-pub refused_tells : (rules : Rules) (behind : List ℕ) (x : Result Command Refusal) (r : ℕ) → ¬ (r ≡ 0) → (does rules behind x).answer.refusal ≡ r
+pub refused_tells : (rules : Rules) (behind : List ℕ) (x : Result Command RefusedCommand) (r : ℕ) → ¬ (r ≡ 0) → (does rules behind x).answer.refusal ≡ r
     → does rules behind x ≡ tells (bare r) rules
 refused_tells rules behind x r n e =
     let some : ¬ ((does rules behind x).answer.refusal ≡ 0) = λ z. n (sym e ∙ z) in
@@ -114,7 +114,7 @@ refused_tells rules behind x r n e =
 -- ---- at the call
 
 module _ {call : Call} {s : Stage} {c : ℕ} {behind : List ℕ} (at : CameTo call s c behind) where
-  abbrev command : Result Command Refusal
+  abbrev command : Result Command RefusedCommand
   command = command_of c behind
 
   abbrev effect : Effect

@@ -13,7 +13,7 @@ use Rattle.commands.specs.declared.kinds.Act.{Act}
 use Rattle.commands.specs.declared.kinds.Act.TheVariants.{Add, Remove, Ask, Show, Room}
 use Rattle.commands.specs.declared.kinds.Kind.{Kind}
 use Rattle.commands.specs.declared.reader.Command.{Command}
-use Rattle.commands.specs.declared.reader.Refusal.{Refusal}
+use Rattle.commands.specs.declared.reader.RefusedCommand.{RefusedCommand}
 use Rattle.commands.specs.Kinds.{kind_at, act_of, about_term, about_rule, changes_book, with_act, term_is, changes_below_2}
 use Rattle.commands.specs.Commands.{command_from, command_of, command_refusal, command_size}
 use Rattle.commands.specs.Laws.{right_number}
@@ -147,7 +147,7 @@ module _ (rules : Rules) (kind number : ℕ) (low : number < 4096) (behind : Lis
   abbrev row : Option Kind
   row = kind_at kind
 
-  abbrev here : Result Command Refusal
+  abbrev here : Result Command RefusedCommand
   here = command_from kind number behind
 
   abbrev effect : Effect
@@ -280,7 +280,7 @@ remove_changes : (k : ℕ) (h : Held) → ¬ (refusal_of_remove (removal h) ≡ 
 remove_changes k nothing n = refl
 remove_changes k (rule r) n = absurd (n refl)
 
-pub refused_stays : (rules : Rules) (behind : List ℕ) (x : Result Command Refusal) → ¬ ((does rules behind x).answer.refusal ≡ 0) → (does rules behind x).changes ≡ []
+pub refused_stays : (rules : Rules) (behind : List ℕ) (x : Result Command RefusedCommand) → ¬ ((does rules behind x).answer.refusal ≡ 0) → (does rules behind x).changes ≡ []
 refused_stays rules behind x = any_effect rules behind x (λ e. ¬ (e.answer.refusal ≡ 0) → e.changes ≡ [])
     (λ c. go c.act c.number (take c.size behind)) (λ why n. refl)
   where
@@ -314,7 +314,7 @@ ends_so (suc fuel) rules [] room h = none_left rules room
 ends_so (suc fuel) rules (c ∷ behind) room h = go (λ r cells k l. ends_so fuel r cells k l) (dec_lt (length e.answer.cells) room)
     (stop_range (command_of c behind))
   where
-    x : Result Command Refusal
+    x : Result Command RefusedCommand
     x = command_of c behind
 
     e : Effect
@@ -323,7 +323,7 @@ ends_so (suc fuel) rules (c ∷ behind) room h = go (λ r cells k l. ends_so fue
     size : command_size x ≤ length behind
     size = within x refl
       where
-        within : (y : Result Command Refusal) → x ≡ y → command_size y ≤ length behind
+        within : (y : Result Command RefusedCommand) → x ≡ y → command_size y ≤ length behind
         within (Ok first) q = (read_of (c / 4096) (c % 4096) behind (omega arith) first q).inside
         within (Err why) q = omega arith
 

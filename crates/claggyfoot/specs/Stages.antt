@@ -8,7 +8,7 @@ use Rattle.book.specs.Rules.{Rule, plain, Held, nothing, rule, Rules, without_ru
 use Rattle.book.specs.Memory.{Passing, rules_in}
 use Rattle.commands.specs.Records.{Record, bare}
 use Rattle.commands.specs.declared.reader.Command.{Command}
-use Rattle.commands.specs.declared.reader.Refusal.{Refusal}
+use Rattle.commands.specs.declared.reader.RefusedCommand.{RefusedCommand}
 use Rattle.commands.specs.declared.kinds.Act.{Act}
 use Rattle.commands.specs.declared.kinds.Act.TheVariants.{Add, Remove, Ask, Show, Room}
 use Rattle.commands.specs.Commands.{command_of, command_refusal, command_size}
@@ -20,17 +20,17 @@ use Rattle.batch.specs.Laws.{does_stop, any_effect, rest, run_stops, run_goes_on
 
 -- ---- a command by its refusal number: it was read and the batch goes on, or it is refused and stops the batch
 
-pub read_on : (x : Result Command Refusal) → command_refusal x ≡ 0 → (c : Command) × (x ≡ Ok c)
+pub read_on : (x : Result Command RefusedCommand) → command_refusal x ≡ 0 → (c : Command) × (x ≡ Ok c)
 read_on (Ok c) e = (c, refl)
-read_on (Err why) e = absurd (let l = refusal_low why in omega arith)
+read_on (Err refused) e = absurd (let l = refusal_low refused.why in omega arith)
 
-pub read_off : (x : Result Command Refusal) → ¬ (command_refusal x ≡ 0) → (why : Refusal) × (x ≡ Err why)
+pub read_off : (x : Result Command RefusedCommand) → ¬ (command_refusal x ≡ 0) → (refused : RefusedCommand) × (x ≡ Err refused)
 read_off (Ok c) n = absurd (n refl)
-read_off (Err why) n = (why, refl)
+read_off (Err refused) n = (refused, refl)
 
-pub stop_tells : (rules : Rules) (behind : List ℕ) (x : Result Command Refusal) → ¬ (command_refusal x ≡ 0) → does rules behind x ≡ tells (bare (command_refusal x)) rules
+pub stop_tells : (rules : Rules) (behind : List ℕ) (x : Result Command RefusedCommand) → ¬ (command_refusal x ≡ 0) → does rules behind x ≡ tells (bare (command_refusal x)) rules
 stop_tells rules behind x n =
-    let w = read_off x n in does_stop rules behind x w.0 w.1 ∙ ap (λ (r : Result Command Refusal). tells (bare (command_refusal r)) rules) (sym w.1)
+    let w = read_off x n in does_stop rules behind x w.0 w.1 ∙ ap (λ (r : Result Command RefusedCommand). tells (bare (command_refusal r)) rules) (sym w.1)
 
 module _ (rules : Rules) (c : ℕ) (behind : List ℕ) (room : ℕ) where
   abbrev effect : Effect
@@ -39,14 +39,14 @@ module _ (rules : Rules) (c : ℕ) (behind : List ℕ) (room : ℕ) where
   pub stops_with : length effect.answer.cells < room → ¬ (command_refusal (command_of c behind) ≡ 0) → run rules (c ∷ behind) room ≡ ends_with (command_refusal (command_of c behind)) effect
   stops_with h n =
       let w = read_off (command_of c behind) n in
-      run_stops rules c behind room w.0 h w.1 ∙ ap (λ (r : Result Command Refusal). ends_with (command_refusal r) effect) (sym w.1)
+      run_stops rules c behind room w.0 h w.1 ∙ ap (λ (r : Result Command RefusedCommand). ends_with (command_refusal r) effect) (sym w.1)
 
   pub goes_on_by : length effect.answer.cells < room → command_refusal (command_of c behind) ≡ 0
       → run rules (c ∷ behind) room ≡ is_going_on (suc (command_size (command_of c behind))) effect (rest rules c behind room)
   goes_on_by h z =
       let w = read_on (command_of c behind) z in
       run_goes_on rules c behind room w.0 h w.1
-      ∙ ap (λ (r : Result Command Refusal). is_going_on (suc (command_size r)) effect (rest rules c behind room)) (sym w.1)
+      ∙ ap (λ (r : Result Command RefusedCommand). is_going_on (suc (command_size r)) effect (rest rules c behind room)) (sym w.1)
 
 -- Where a batch stands before a command: the cells used and the records written so far, the changes of the rules so far, the rules held, the cells
 -- to come and the room that is left.
@@ -126,7 +126,7 @@ remove_applied rules k nothing e = none_removed rules k e
 remove_applied rules k (rule r) e = refl
 
 -- What a command makes of the rules are its changes.
-pub does_applied : (rules : Rules) (behind : List ℕ) (x : Result Command Refusal) → (does rules behind x).rules ≡ applied (does rules behind x).changes rules
+pub does_applied : (rules : Rules) (behind : List ℕ) (x : Result Command RefusedCommand) → (does rules behind x).rules ≡ applied (does rules behind x).changes rules
 does_applied rules behind x = any_effect rules behind x (λ e. e.rules ≡ applied e.changes rules) (λ c. go c.act c.number (take c.size behind)) (λ why. refl)
   where
     go : (a : Act) (k : ℕ) (t : List ℕ) → (acts a rules k t).rules ≡ applied (acts a rules k t).changes rules
@@ -136,7 +136,7 @@ does_applied rules behind x = any_effect rules behind x (λ e. e.rules ≡ appli
     go Show k t = refl
     go Room k t = refl
 
-pub does_rules : (rules : Rules) (behind : List ℕ) (x : Result Command Refusal) → (does rules behind x).changes ≡ [] → (does rules behind x).rules ≡ rules
+pub does_rules : (rules : Rules) (behind : List ℕ) (x : Result Command RefusedCommand) → (does rules behind x).changes ≡ [] → (does rules behind x).rules ≡ rules
 does_rules rules behind x e = does_applied rules behind x ∙ ap (λ (cs : List Change). applied cs rules) e
 
 stage_rules : {rules : Rules} {cells : List ℕ} {room : ℕ} {s : Stage} → Reaches rules cells room s → s.rules ≡ applied s.changes rules

@@ -10,7 +10,7 @@ use Rattle.term.specs.Whole.{whole_term, whole_alone}
 use Rattle.term.specs.declared.reading.Fault.{Fault}
 use Rattle.term.specs.declared.reading.Fault.TheVariants.{TooLong, CutShort, FieldSet, AboveFifteen, AboveCount}
 use Rattle.commands.specs.Kinds.{Kind, kind_at, act_of, zero_of, term_of, about_rule, with_act, any_number}
-use Rattle.commands.specs.Commands.{Command, Refusal, UnknownKind, NumberNotZero, Term, refusal_number, command_with, command_of, command_in}
+use Rattle.commands.specs.Commands.{Command, Refusal, RefusedCommand, UnknownKind, NumberNotZero, Term, refusal_number, command_with, refused_with, command_of, command_in}
 
 -- ---- a wrong kind or number
 
@@ -106,10 +106,10 @@ refusal_low (Term fault) = let l = fault_low fault in omega arith
 
 -- ---- what a command cell says, with the cells behind it
 
-pub data Said (k : Option Kind) (number : ℕ) (behind : List ℕ) : Result Command Refusal → Type 0 where
-  unknown : k ≡ None → Said k number behind (Err UnknownKind)
-  not_zero : zero_of k ≡ true → ¬ (number ≡ 0) → Said k number behind (Err NumberNotZero)
-  faulty : (fault : Fault) (place : ℕ) → TakesTerm k number → read_term behind ≡ refused fault place → Said k number behind (Err (Term fault))
+pub data Said (k : Option Kind) (number : ℕ) (behind : List ℕ) : Result Command RefusedCommand → Type 0 where
+  unknown : k ≡ None → Said k number behind (Err (refused_with k number UnknownKind))
+  not_zero : zero_of k ≡ true → ¬ (number ≡ 0) → Said k number behind (Err (refused_with k number NumberNotZero))
+  faulty : (fault : Fault) (place : ℕ) → TakesTerm k number → read_term behind ≡ refused fault place → Said k number behind (Err (refused_with k number (Term fault)))
   whole : (row : Kind) (size : ℕ) → k ≡ Some row → TakesTerm k number → read_term behind ≡ Ok size → Said k number behind (Ok (command_with row number size))
   plain : (row : Kind) → k ≡ Some row → term_of k ≡ false → ¬ (Wrong k number) → Said k number behind (Ok (command_with row number 0))
 

@@ -1,8 +1,9 @@
 // Commands out of cells that anybody may have written. The cells and the place in them travel together as one reader.
-ghost use Rattle.std.specs.Prelude.{◌≡◌, ◌+◌, ◌<◌, drop};
+ghost use Rattle.std.specs.Prelude.{◌≡◌, ◌+◌, ◌/◌, ◌%◌, ◌<◌, drop};
 ghost use Rattle.commands.specs.Reader.{cell_in, past};
 ghost use Rattle.commands.specs.declared.reader.Refusal.TheVariants.{Term};
-ghost use Rattle.commands.specs.Commands.{refusal_number, read_by, command_of as command_at, command_in};
+ghost use Rattle.commands.specs.Kinds.{kind_at};
+ghost use Rattle.commands.specs.Commands.{refusal_number, refused_with, told, read_by, command_of as command_at, command_in};
 
 use crate::kinds;
 use crate::kinds::{Act, Kind};
@@ -62,6 +63,14 @@ impl fmt::Display for Refusal {
 
 impl Error for Refusal {}
 
+// A command that is refused. Whatever is wrong, its cell says an act, none where there is no such kind, and a number.
+#[derive(Clone, Copy, Debug, PartialEq, Eq)]
+pub struct RefusedCommand {
+    pub act: Option<Act>,
+    pub number: u16,
+    pub why: Refusal,
+}
+
 // Cells and a place in them.
 #[derive(Clone, Copy)]
 pub struct Reader<'a> {
@@ -96,7 +105,7 @@ pub fn moved_on<'a>(r: Reader<'a>) -> Reader<'a>
 // A command of a known kind: its number is looked at, and then its term is read where one follows.
 #[tactic(auto, unfolding(crate::specs::Commands::read_by))]
 fn command_by(kind: Kind, number: u16, behind: Reader<'_>) -> Result<Command, Refusal>
-    ensures { result ≡ read_by (Some kind) number (drop behind.entry.at behind.entry.cells.now) }
+    ensures { told (Some kind) number result ≡ read_by (Some kind) number (drop behind.entry.at behind.entry.cells.now) }
 {
     let act = kind.act;
     if kind.zero && number != 0 {
@@ -116,22 +125,37 @@ fn command_by(kind: Kind, number: u16, behind: Reader<'_>) -> Result<Command, Re
 // The command that a cell begins, with the reader behind it.
 #[tactic(auto, unfolding(crate::specs::Commands::read_by))]
 fn command_of(c: u16, behind: Reader<'_>) -> Result<Command, Refusal>
-    ensures { result ≡ command_at c (drop behind.entry.at behind.entry.cells.now) }
+    ensures { told (kind_at (c / 4096)) (c % 4096) result ≡ command_at c (drop behind.entry.at behind.entry.cells.now) }
 {
     let kind = kinds::kind_of(c / 4096).ok_or(Refusal::UnknownKind)?;
     command_by(kind, c % 4096, behind)
 }
 
-// The next command, or why it is refused; none at the end.
-pub fn next_command(r: Reader<'_>) -> Option<Result<Command, Refusal>>
+// A command that is refused, by its cell. The cell is taken apart anew, so nothing is kept for this while a command is read.
+fn refused(c: u16, why: Refusal) -> RefusedCommand
+    ensures { result ≡ refused_with (kind_at (c / 4096)) (c % 4096) why }
+{
+    let act = match kinds::kind_of(c / 4096) {
+        Some(kind) => Some(kind.act),
+        None => None,
+    };
+    let number = c % 4096;
+    RefusedCommand { act, number, why }
+}
+
+// The next command, or that it is refused; none at the end.
+pub fn next_command(r: Reader<'_>) -> Option<Result<Command, RefusedCommand>>
     ensures { result ≡ command_in (drop r.entry.at r.entry.cells.now) }
 {
     let c = next_cell(r)?;
-    Some(command_of(c, moved_on(r)))
+    Some(match command_of(c, moved_on(r)) {
+        Ok(command) => Ok(command),
+        Err(why) => Err(refused(c, why)),
+    })
 }
 
 // The same for those who have the cells and the place apart.
-pub fn read_command(cells: &[u16], at: usize) -> Option<Result<Command, Refusal>>
+pub fn read_command(cells: &[u16], at: usize) -> Option<Result<Command, RefusedCommand>>
     ensures { result ≡ command_in (drop at cells.now) }
 {
     next_command(reader_at(cells, at))

@@ -1,25 +1,36 @@
 -- How long a listing can be: a text of 65,536 bytes has room for it. And how many cells are read.
-use Rattle.std.specs.Prelude.{◌≡◌, refl, List, [], ◌∷◌, ◌++◌, ℕ, ◌+◌, ◌*◌, ◌/◌, ◌^◌, ◌≤◌, ◌<◌, length}
-use Rattle.std.proofs.Common.{ap, arith, length-append}
+use Rattle.std.specs.Prelude.{◌≡◌, refl, List, [], ◌∷◌, ◌++◌, Bool, true, false, ℕ, zero, suc, ◌+◌, ◌*◌, ◌/◌, ◌%◌, ◌^◌, ◌≤◌, ◌<◌, ltb, length}
+use Rattle.std.proofs.Common.{ap, ◌∙◌, pow-suc, arith, ltb-true, ltb-false, length-append}
 use Rattle.commands.specs.Records.{Record, written}
 use Rattle.listing.specs.Listing.{decimal, hex_cell, hex_cells, space, newline, record_line, record_lines, header, stop_line, listing, cells_in}
-use Rattle.listing.specs.Digits.{printed}
-use Rattle.std.proofs.lemmas.Fmt.{length-decimal-le}
+use Rattle.listing.specs.Digits.{one_digit, more_digits}
 use Rattle.listing.specs.Reading.{Sound, none, more}
 
 -- a number below 10 ^ k has at most k digits
-short : (k n : ℕ) → 0 < k → n < 10 ^ k → n < 18446744073709551616 → length (decimal n) ≤ k
-short k n z h i = omega (arith, ap length (printed n i), length-decimal-le k n z h i)
+module _ (n : ℕ) where
+  one : n < 10 → length (decimal n) ≤ 1
+  one h = omega (arith, ap length (one_digit n h))
+
+  next : (k : ℕ) → length (decimal (n / 10)) ≤ k → 10 ≤ n → length (decimal n) ≤ suc k
+  next k h i = omega (arith, ap length (more_digits n i) ∙ length-append (decimal (n / 10)) ((48 + n % 10) ∷ []))
+
+short : (k n : ℕ) → n < 10 ^ suc k → length (decimal n) ≤ suc k
+short zero n h = one n (omega (arith, h))
+short (suc k) n h = by (ltb n 10) refl (short k (n / 10) (omega (arith, h, pow-suc 10 (suc k))))
+  where
+    by : (b : Bool) → ltb n 10 ≡ b → length (decimal (n / 10)) ≤ suc k → length (decimal n) ≤ suc (suc k)
+    by true t s = let i = one n (ltb-true n 10 t) in omega arith
+    by false t s = next n (suc k) s (ltb-false n 10 t)
 
 pub four_digits : (n : ℕ) → n < 10000 → length (decimal n) ≤ 4
-four_digits n h = short 4 n (omega arith) h (omega arith)
+four_digits n h = short 3 n h
 
 two_digits : (n : ℕ) → n < 100 → length (decimal n) ≤ 2
-two_digits n h = short 2 n (omega arith) h (omega arith)
+two_digits n h = short 1 n h
 
 -- any number of 64 bits
 twenty_digits : (n : ℕ) → n < 18446744073709551616 → length (decimal n) ≤ 20
-twenty_digits n h = short 20 n (omega arith) (omega arith) h
+twenty_digits n h = short 19 n (omega arith)
 
 cells_size : (cells : List ℕ) → length (hex_cells cells) ≡ 5 * length cells
 unfolding hex_cells

@@ -4,7 +4,7 @@ use Rattle.std.specs.Prelude.{◌≡◌, refl, get_or, Result, Ok, Err}
 use Rattle.std.proofs.Common.{sym, subst, ◌∙◌, length-append}
 use Rattle.std.proofs.Math.Path.{ap}
 use mathlib.Core.List.{List, [], ◌∷◌, ◌++◌, append_assoc, append-nil}
-use Prim.Native.Nat.{ℕ, ◌+◌, ◌-◌, ◌*◌, ◌<◌}
+use Prim.Native.Nat.{ℕ, zero, suc, ◌+◌, ◌-◌, ◌*◌, ◌<◌}
 use native.Mathlib.Omega.{arith}
 use Rattle.std.proofs.Math.Decide.{dec_lt}
 use Rattle.std.proofs.Math.ListN.{length, take, drop, replicate, get_or-append}
@@ -43,6 +43,10 @@ module _ (names : List (List ℕ)) (name : List ℕ) where
       go (no y) =
           let last : k ≡ length names = omega (arith, more_length) in
           m j (omega arith) (sym (more_before j (omega arith)) ∙ e ∙ more_last k last)
+
+pub drop_zeros : (n m : ℕ) → ◌≡◌ {A = List ℕ} (drop n (replicate (n + m) 0)) (replicate m 0)
+drop_zeros zero m = let e : zero + m ≡ m = omega arith in ap (λ (k : ℕ). replicate k 0) e
+drop_zeros (suc n) m = let e : suc n + m ≡ suc (n + m) = omega arith in ap (λ (k : ℕ). drop (suc n) (replicate k 0)) e ∙ drop_zeros n m
 
 -- A new name over the first free slot: the table holds it as the last.
 module _ {t : List ℕ} {names : List (List ℕ)} {free : ℕ} (h : Holds t names free) (name : List ℕ) (room : 0 < free) where

@@ -4,7 +4,8 @@ ghost use Rattle.names.specs.Calls.{Checks};
 ghost use Rattle.names.specs.Index.{Indexes};
 ghost use Rattle.names.specs.Leaves.{Runs};
 
-use crate::index::{HEADS, Lookup, bucket};
+use crate::index::{HEADS, bucket};
+use crate::lookup::Lookup;
 use crate::refusal::Refusal;
 use crate::slot::{all_zero, is_used};
 use crate::{INDEX, SLOT, SLOTS};

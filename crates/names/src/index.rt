@@ -1,10 +1,7 @@
 // The index of a table's names: heads by bucket and links by slot, each 1 and a slot, or 0 for none.
 // Both stand in one list, since `check_into` is lent one.
-ghost use Rattle.std.specs.Prelude.{◌≡◌, ◌<◌, length};
-ghost use Rattle.names.specs.Index.{Indexed, bucket_of};
-ghost use Rattle.names.specs.Leaves.{Finds};
-
-use crate::slot::says;
+ghost use Rattle.std.specs.Prelude.{◌≡◌, ◌<◌};
+ghost use Rattle.names.specs.Index.{bucket_of};
 
 // The heads of an index, before its links.
 pub const HEADS: usize = 1024;
@@ -17,33 +14,4 @@ pub fn bucket(name: &[u8]) -> usize
         h = (h * 37 + usize::from(*byte)) % 32768;
     }
     h % HEADS
-}
-
-// The names in the first `held` slots of a table, with their index.
-#[derive(Clone, Copy)]
-pub struct Lookup<'a> {
-    pub table: &'a [u8],
-    pub index: &'a [u16],
-    pub held: usize,
-    pub ghost indexed: { Indexed table.now held index.now },
-}
-
-impl Lookup<'_> {
-    // A slot that says the name: only the slots of the name's bucket are compared.
-    #[inline]
-    pub(crate) fn find(&self, bucket: usize, name: &[u8]) -> Option<usize>
-        requires { (bucket ≡ bucket_of name.now) × (length name.now < 32) }
-        ensures { Finds self.now.table.now self.now.held name.now result }
-    {
-        // By links, not by an index: from slot to slot, 0 for none as the list has it.
-        let mut next = usize::from(self.index[bucket]);
-        while next != 0 {
-            let slot = next - 1;
-            if says(self.table, slot, name) {
-                return Some(slot);
-            }
-            next = usize::from(self.index[HEADS + slot]);
-        }
-        None
-    }
 }

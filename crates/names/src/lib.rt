@@ -5,6 +5,7 @@
 
 pub mod checking;
 mod index;
+mod lookup;
 pub mod name;
 pub mod refusal;
 mod slot;
@@ -14,8 +15,8 @@ ghost use Rattle.names.specs.Calls.{LooksUp, Adds, Appends, Enters, Counts, Part
 ghost use Rattle.names.specs.Index.{Indexed};
 
 use checking::{Counted, check, check_into};
-pub use index::Lookup;
 use index::bucket;
+pub use lookup::Lookup;
 use name::is_name;
 use refusal::Refusal;
 use slot::{copy, find, write};
@@ -102,7 +103,8 @@ fn enter_passing(
     if !is_name(name) {
         return Err(Refusal::NoName);
     }
-    if let Some(slot) = look_up_in(table, index, held, name) {
+    let found = look_up_in(table, index, held, name);
+    if let Some(slot) = found {
         return Ok(Entry::Held(slot));
     }
     if free == 0 {

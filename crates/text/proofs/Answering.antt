@@ -6,7 +6,7 @@ use native.Mathlib.Omega.{arith}
 use borrow.Author.Tests.{eq-eqb, ne_eqb, lt-ltb, le-ltb}
 use lib.ListN.{length, get_or, replicate, length-append, length-replicate}
 use Rattle.std.specs.Prelude.{Bool, true, false, eqb, ltb, Result, Ok, Err}
-use Rattle.deciding.specs.Deciding.{pick}
+use Rattle.deciding.specs.Deciding.{pick, true_not_false}
 use Rattle.names.specs.declared.refusal.Refusal.TheVariants.{NoTable, NoName, NoSlot, NoNumber}
 use Rattle.names.specs.Name.{passes_as_name}
 use Rattle.names.specs.Table.{Holds, slot_in, slots_of}
@@ -22,7 +22,8 @@ use Rattle.text.specs.Steps.{cells_many}
 use Rattle.text.specs.Text.{Answer, refused, padded, term_of, read_text}
 use Rattle.text.specs.Promises.{told, refused_read, table_of, Reads, has_read}
 use Rattle.text.specs.Refusals.{Refusal, Names, SeventeenthVariable, NoCell, NoTerm, EighthArgument, number_of_refusal, place_of_refusal}
-use Rattle.text.specs.Leaves.{Note, note_at, Stands, a_variable, a_name, Stops, ReadEnds, ReadsTerm, GatheredNames, Tokens, NumbersAll}
+use Rattle.text.specs.Leaves.{Note, note_at, Stands, a_variable, a_name, Stops, ReadEnds, ReadsTerm, WordEnds, GatheredNames, Tokens, NumbersAll}
+use Rattle.text.proofs.Words.{upper_left, word_ends}
 use Rattle.text.proofs.Reading.{refused_above}
 
 pub table_length : {t : List ℕ} {names : List (List ℕ)} {free : ℕ} → Holds t names free → length t ≡ 32 * (length names + free)
@@ -31,8 +32,15 @@ table_length {t} {names} {free} h =
 
 -- A note has one cell.
 stands_bounds : {text : List ℕ} {note : Note} {token : Token} → Stands text note token → (note.place ≤ length text) × (note.shape ≤ 32768)
-stands_bounds (a_variable p u w s) = (p, omega arith)
+stands_bounds (a_variable p u w e s) = (p, omega arith)
 stands_bounds (a_name p u w l s) = (p, omega arith)
+
+-- A variable's word ends behind its place.
+stands_word : {text : List ℕ} {note : Note} {token : Token} → Stands text note token → WordEnds text note.place note.after
+stands_word {text} {note} (a_variable p u w e s) o =
+    let ends = word_ends text note.place note.after p (upper_left text note.place note.after o e) in
+    (omega arith, e.within)
+stands_word (a_name p u w l s) o = absurd (true_not_false o u)
 
 -- A token is refused by 4 or 11, and no place is told with these.
 token_small : (names words : List (List ℕ)) (token : Token) → (number_of names words token).refusal ≤ 11
@@ -63,9 +71,9 @@ naming_small names words (token ∷ tokens) =
 no_place : (refusal : Refusal) → number_of_refusal refusal ≤ 11 → place_of_refusal refusal ≡ 0
 no_place (Names refusal) l = refl
 no_place SeventeenthVariable l = refl
-no_place NoCell l = refl
+no_place (NoCell place) l = refl
 no_place (NoTerm place) l = absurd (omega arith)
-no_place EighthArgument l = refl
+no_place (EighthArgument place) l = refl
 
 -- The place of the reading's fault.
 fault_place : (text : List ℕ) (r : Read) (refusal : Refusal) → Stops text r.rest r.fault refusal
@@ -75,9 +83,9 @@ fault_place text r (Names NoName) s = rw (sym s.fault_is) refl
 fault_place text r (Names NoSlot) s = rw (sym s.fault_is) refl
 fault_place text r (Names NoNumber) s = rw (sym s.fault_is) refl
 fault_place text r SeventeenthVariable s = rw (sym s.fault_is) refl
-fault_place text r NoCell s = rw (sym s.fault_is) refl
+fault_place text r (NoCell place) s = rw (sym s.fault_is) refl
 fault_place text r (NoTerm place) s = rw (sym s.fault_is) (sym (place_is s.at))
-fault_place text r EighthArgument s = rw (sym s.fault_is) refl
+fault_place text r (EighthArgument place) s = rw (sym s.fault_is) refl
 
 -- What is known once the term was read.
 module _ (text : List ℕ) (begin : ℕ) (gap : LeftFrom text (skip text) begin) (notes : List Note) (size : ℕ) (notes' : List Note) (end : Result ℕ Refusal)
@@ -93,6 +101,9 @@ module _ (text : List ℕ) (begin : ℕ) (gap : LeftFrom text (skip text) begin)
 
   pub notes_bounds : (i : ℕ) → i < size → ((note_at notes' i).place ≤ length text) × ((note_at notes' i).shape ≤ 32768)
   notes_bounds i l = stands_bounds (tokens_stand i (omega (arith, size_is)))
+
+  pub notes_words : (i : ℕ) → i < size → WordEnds text (note_at notes' i).place (note_at notes' i).after
+  notes_words i l = stands_word (tokens_stand i (omega (arith, size_is)))
 
   -- .. and once its tokens have their numbers.
   module _ {before : List ℕ} {names : List (List ℕ)} {free : ℕ} (h : Holds before names free) (held : ℕ) (count : length names ≡ held)

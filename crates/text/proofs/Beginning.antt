@@ -106,16 +106,16 @@ module _ (text : List ℕ) (at argument from byte : ℕ) (l : at ≤ length text
   start_none e = begun (Err (NoTerm at)) (no_start 20 (drop at text)) (rw (← is, ← e)) (record { fault_is = refl; at = here text at l })
 
   module _ (b : true ≡ begins byte) where
-    pub start_eighth : argument ≡ 8 → Start_is (Err EighthArgument)
+    pub start_eighth : argument ≡ 8 → Start_is (Err (EighthArgument at))
     unfolding start_of
-    start_eighth e = begun (Err EighthArgument) (no_start 21 (drop at text)) (rw (← is, ← b, eq-eqb argument 8 e)) (record { fault_is = refl; at = tt })
+    start_eighth e = begun (Err (EighthArgument at)) (no_start 21 (drop at text)) (rw (← is, ← b, eq-eqb argument 8 e)) (record { fault_is = refl; at = here text at l })
 
     module _ (d : argument ≡ 8 → ⊥) where
-      pub start_full : from ≡ 32 → Start_is (Err NoCell)
+      pub start_full : from ≡ 32 → Start_is (Err (NoCell at))
       unfolding start_of
       start_full e =
           let z : 32 - from ≡ 0 = omega arith in
-          begun (Err NoCell) (no_start 5 (drop at text)) (rw (← is, ← b, ne_eqb argument 8 d, eq-eqb (32 - from) 0 z)) (record { fault_is = refl; at = tt })
+          begun (Err (NoCell at)) (no_start 5 (drop at text)) (rw (← is, ← b, ne_eqb argument 8 d, eq-eqb (32 - from) 0 z)) (record { fault_is = refl; at = here text at l })
 
       module _ (room : from < 32) where
         left_over : 32 - from ≡ 0 → ⊥
@@ -128,7 +128,7 @@ module _ (text : List ℕ) (at argument from byte : ℕ) (l : at ≤ length text
             (rw (← is, ← b, ne_eqb argument 8 d, ne_eqb (32 - from) 0 left_over, ← u))
             (record {
               opening = record { goes = record { fine = refl; left = left }; opens_is = refl };
-              stands = a_variable l (ap is_upper_byte (sym is) ∙ sym u) refl refl;
+              stands = a_variable l (ap is_upper_byte (sym is) ∙ sym u) refl left refl;
             })
 
         pub start_name : false ≡ is_upper_byte byte → (r : Begun) → (token (drop at text)).fault ≡ 0 → shape_begun r ≡ 0

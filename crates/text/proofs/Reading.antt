@@ -15,7 +15,7 @@ use Rattle.tokens.specs.Places.{LeftFrom}
 use Rattle.text.specs.Term.{Token, variable, Start, start_of, mark, after_of, Read, applied, term_from, term, arguments}
 use Rattle.text.specs.Refusals.{Refusal, Names, SeventeenthVariable, NoCell, NoTerm, EighthArgument, number_of_refusal}
 use Rattle.text.specs.Leaves.{Note, note_at, Begun, Followed, place_begun, shape_begun, opens, is_comma, place_followed}
-use Rattle.text.specs.Leaves.{Stands, a_variable, a_name, Stops, Begins, FollowedBy, FollowedByNone, Noted, ReadEnds, ReadsTerm, with_arguments, ReadsArguments}
+use Rattle.text.specs.Leaves.{Stands, a_variable, a_name, Stops, Begins, FollowedBy, FollowedByNone, Noted, ReadEnds, ReadsTerm, counted, with_arguments, ReadsArguments}
 
 -- Each refusal has a number.
 pub refused_above : (refusal : Refusal) → number_of_refusal refusal ≡ 0 → ⊥
@@ -24,9 +24,9 @@ refused_above (Names NoName) e = omega arith
 refused_above (Names NoSlot) e = omega arith
 refused_above (Names NoNumber) e = omega arith
 refused_above SeventeenthVariable e = omega arith
-refused_above NoCell e = omega arith
+refused_above (NoCell place) e = omega arith
 refused_above (NoTerm place) e = omega arith
-refused_above EighthArgument e = omega arith
+refused_above (EighthArgument place) e = omega arith
 
 -- The notes.
 noted_none : (text : List ℕ) (from : ℕ) (notes : List Note) → Noted text from [] notes notes
@@ -46,7 +46,7 @@ module _ (text : List ℕ) (from : ℕ) (note : Note) (token : Token) (tokens : 
       go (suc i) l = let e : from + suc i ≡ from + 1 + i = omega arith in rw e (under.noted i (omega arith))
 
 -- The note of a name gets its arguments.
-with_same : (notes : List Note) (i count : ℕ) → i < length notes → note_at (with_arguments notes i count) i ≡ record { place = (note_at notes i).place; shape = count * 4096 }
+with_same : (notes : List Note) (i count : ℕ) → i < length notes → note_at (with_arguments notes i count) i ≡ counted (note_at notes i) count
 with_same notes i count l = get_or-set_same notes i _ _ l
 
 with_other : (notes : List Note) (i count j : ℕ) → (j ≡ i → ⊥) → note_at (with_arguments notes i count) j ≡ note_at notes j
@@ -60,9 +60,9 @@ module _ {text : List ℕ} {from : ℕ} (name less more : ℕ) (a b : List Token
 
   both_kept : (i : ℕ) → i < from → (Dec (i ≡ name)) → note_at notes₂ i ≡ note_at (with_arguments notes name more) i
   both_kept i l (yes e) =
-      let place : (note_at notes₁ name).place ≡ (note_at notes name).place = ap (λ (x : Note). x.place) (p.kept name above ∙ with_same notes name less in_notes) in
+      let same : note_at notes₁ name ≡ counted (note_at notes name) less = p.kept name above ∙ with_same notes name less in_notes in
       rw e
-      (q.kept name (omega arith) ∙ with_same notes₁ name more in_notes₁ ∙ ap (λ (x : ℕ). record { place = x; shape = more * 4096 }) place
+      (q.kept name (omega arith) ∙ with_same notes₁ name more in_notes₁ ∙ ap (λ (x : Note). counted x more) same
       ∙ sym (with_same notes name more in_notes))
   both_kept i l (no d) =
       q.kept i (omega arith) ∙ with_other notes₁ name more i d ∙ p.kept i l ∙ with_other notes name less i d ∙ sym (with_other notes name more i d)
@@ -81,9 +81,10 @@ module _ {text : List ℕ} {from : ℕ} (name less more : ℕ) (a b : List Token
           subst Said e (later (i - length a) (omega (arith, length-append a b)))
 
 -- A name with its arguments counted.
-stands_applied : {text : List ℕ} {at : ℕ} {token : Token} (count : ℕ) → count ≤ 8 → Stands text (record { place = at; shape = 0 }) token
-    → Stands text (record { place = at; shape = count * 4096 }) (applied token count)
-stands_applied count l (a_variable p u w s) = absurd (omega arith)
+stands_applied : {text : List ℕ} {at after : ℕ} {token : Token} (count : ℕ) → count ≤ 8
+    → Stands text (record { place = at; after = after; shape = 0 }) token
+    → Stands text (record { place = at; after = after; shape = count * 4096 }) (applied token count)
+stands_applied count l (a_variable p u w e s) = absurd (omega arith)
 stands_applied count l (a_name p u w m s) = a_name p u w l refl
 
 -- A term, by how it begins.
@@ -96,7 +97,7 @@ module _ (text : List ℕ) (at from : ℕ) (notes : List Note) (arguments : List
 
   module _ (b : Begun) (h : Begins text at s b) (size : length notes ≡ 32) (room : from < 32) where
     abbrev note : Note
-    note = record { place = at; shape = shape_begun b }
+    note = record { place = at; after = place_begun b; shape = shape_begun b }
 
     more_kept : (i : ℕ) → i < from → note_at (set notes from note) i ≡ note_at notes i
     more_kept i l = get_or-set_other notes from i note _ (λ e. omega arith)
@@ -122,17 +123,16 @@ module _ (text : List ℕ) (at from : ℕ) (notes : List Note) (arguments : List
     applies_here e z size' notes' end u =
         let g = h.opening.goes in
         let count : ℕ = (arguments s.rest).count in
-        let stands : Stands text (record { place = at; shape = 0 }) s.token = rw z at h.stands in
-        let place : (note_at (set notes from note) from).place ≡ at = ap (λ (x : Note). x.place) more_here in
+        let stands : Stands text (record { place = at; after = place_begun b; shape = 0 }) s.token = rw z at h.stands in
         let inside : from < length (set notes from note) = simp length-set (omega arith) in
         rw (eq-eqb s.fault 0 g.fine, sym h.opening.opens_is ∙ e)
         (record {
           ends = u.ends;
           size_is = u.size_is ∙ omega arith;
           few = omega arith;
-          notes_are = noted_before text from (record { place = at; shape = count * 4096 }) (applied s.token count) (arguments s.rest).tokens notes
+          notes_are = noted_before text from (counted note count) (applied s.token count) (arguments s.rest).tokens notes
               (with_arguments (set notes from note) from count) notes' (λ i l. with_other (set notes from note) from count i (λ d. omega arith) ∙ more_kept i l)
-              (with_same (set notes from note) from count inside ∙ ap (λ (x : ℕ). record { place = x; shape = count * 4096 }) place) (stands_applied count u.few stands) u.notes_are;
+              (with_same (set notes from note) from count inside ∙ ap (λ (x : Note). counted x count) more_here) (stands_applied count u.few stands) u.notes_are;
         })
 
 -- The same with steps enough.
@@ -144,13 +144,14 @@ module _ (text : List ℕ) (at argument from : ℕ) (notes : List Note) where
   term_stops refusal h (suc steps) l = stops_here text at from notes (λ rest. arguments steps 0 (32 - from - 1) rest) _ refusal h
 
   module _ (b : Begun) (h : Begins text at (start_of argument (32 - from) (drop at text)) b) (size : length notes ≡ 32) (room : from < 32) where
-    pub term_alone : opens b ≡ false → ReadsTerm text at argument from notes (from + 1) (set notes from (record { place = at; shape = shape_begun b })) (Ok (place_begun b))
+    pub term_alone : opens b ≡ false
+        → ReadsTerm text at argument from notes (from + 1) (set notes from (record { place = at; after = place_begun b; shape = shape_begun b })) (Ok (place_begun b))
     unfolding term
     term_alone e zero l = absurd (omega arith)
     term_alone e (suc steps) l = alone_here text at from notes (λ rest. arguments steps 0 (32 - from - 1) rest) _ b h size room e
 
     pub term_applies : opens b ≡ true → shape_begun b ≡ 0 → (size' : ℕ) (notes' : List Note) (end : Result ℕ Refusal)
-        → ReadsArguments text (place_begun b) 0 from (from + 1) (set notes from (record { place = at; shape = shape_begun b })) size' notes' end
+        → ReadsArguments text (place_begun b) 0 from (from + 1) (set notes from (record { place = at; after = place_begun b; shape = shape_begun b })) size' notes' end
         → ReadsTerm text at argument from notes size' notes' end
     unfolding term
     term_applies e z size' notes' end u zero l = absurd (omega arith)

@@ -1,40 +1,63 @@
--- A word of a text, and the place of a word among those known.
-use mathlib.Core.Path.{◌≡◌, refl, ap, ◌∙◌}
+-- The word of a variable in a text, and the place of a word among those known.
+use mathlib.Core.Path.{◌≡◌, refl, sym, ap, ◌∙◌}
 use mathlib.Core.List.{List, [], ◌∷◌, ◌++◌, map}
 use mathlib.Core.Bool.{Bool, true, false, not, cond, ◌&&◌}
-use Prim.Native.Nat.{ℕ, suc, ◌+◌, ◌≤◌, ◌<◌}
+use Prim.Native.Nat.{ℕ, suc, ◌+◌, ◌-◌, ◌≤◌, ◌<◌}
 use native.Mathlib.Omega.{arith}
 use lib.Dec.{eqb, ltb}
 use native.Mathlib.Numerals.{add-one}
-use lib.ListN.{length, take, set}
-use lib.Seq.{take-suc-set}
+use lib.ListN.{length, take, drop, set, length-append, length-drop}
+use lib.Seq.{take-suc-set, take-append_seam}
 use Rattle.std.proofs.Common.{length-take-le}
 use Rattle.std.proofs.lemmas.List.{length-map, map-append}
 use Rattle.std.specs.Prelude.{Some, None, unwrap_or}
 use Rattle.std.specs.Str.{bytes_eq}
-use Rattle.std.specs.List.{position_or_len, prefix_len}
+use Rattle.std.specs.List.{position_or_len}
 use Rattle.std.proofs.Common.{ltb-false}
 use Rattle.std.proofs.lemmas.List.Recursion.{is_position_or_len}
 use Rattle.std.proofs.lemmas.List.Sums.{prefix_len-le-length}
 use Rattle.deciding.specs.Deciding.{pick}
 use Rattle.names.specs.Table.{same, slot_in}
-use Rattle.tokens.specs.Bytes.{is_word_byte}
-use Rattle.tokens.specs.Tokens.{more, got, bare}
+use Rattle.tokens.specs.Bytes.{is_upper_byte, is_word_byte, head}
+use Rattle.tokens.specs.Tokens.{Got, more, got, bare, token}
+use Rattle.tokens.specs.Places.{LeftFrom}
+use Rattle.tokens.specs.Ahead.{place_is}
+use Rattle.text.proofs.Beginning.{upper_bare}
 use denote.Ref.{Bor}
 
--- The bytes of a word are those before the first byte that is none of a word.
-pub word_is : (text : List ℕ) → take (position_or_len (λ byte. not (is_word_byte byte)) text) text ≡ (bare text).bytes
+-- A word, and what is left behind it.
+abbrev whole : Got → List ℕ
+whole w = w.bytes ++ w.rest
+
+bare_whole : (text : List ℕ) → whole (bare text) ≡ text
 unfolding bare
-word_is [] = refl
-word_is (byte ∷ bytes) = go (is_word_byte byte) refl (word_is bytes)
+bare_whole [] = refl
+bare_whole (byte ∷ bytes) = go (is_word_byte byte) (bare_whole bytes)
   where
-    go : (b : Bool) → is_word_byte byte ≡ b → take (position_or_len (λ byte. not (is_word_byte byte)) bytes) bytes ≡ (bare bytes).bytes
-        → take (position_or_len (λ byte. not (is_word_byte byte)) (byte ∷ bytes)) (byte ∷ bytes) ≡ (pick b (more byte (bare bytes)) (got 0 [] (byte ∷ bytes))).bytes
-    go true e h =
-        let n : ℕ = prefix_len (λ x. not (not (is_word_byte x))) bytes in
-        let one : 1 + n ≡ suc n = omega arith in
-        rw (e, one) (ap (λ (x : List ℕ). byte ∷ x) h)
-    go false e h = rw e refl
+    go : (b : Bool) → whole (bare bytes) ≡ bytes → whole (pick b (more byte (bare bytes)) (got 0 [] (byte ∷ bytes))) ≡ byte ∷ bytes
+    go true h = ap (λ (x : List ℕ). byte ∷ x) h
+    go false h = refl
+
+-- What is left behind an upper token is what is left behind its word.
+module _ (text : List ℕ) (at after : ℕ) where
+  pub upper_left : is_upper_byte (head (drop at text)) ≡ true → LeftFrom text (token (drop at text)).rest after
+      → LeftFrom text (bare (drop at text)).rest after
+  upper_left u left = rw (upper_bare (drop at text) u) at left
+
+  -- A word ends where the rest begins, and its bytes are those up to there.
+  module _ (l : at ≤ length text) (left : LeftFrom text (bare (drop at text)).rest after) where
+    pub word_ends : at + length (bare (drop at text)).bytes ≡ after
+    word_ends =
+        let word = bare (drop at text) in
+        let size : length word.bytes + length word.rest ≡ length (drop at text) =
+        sym (length-append word.bytes word.rest) ∙ ap length (bare_whole (drop at text)) in
+        omega (arith, length-drop at text, place_is left, left.within)
+
+    pub word_is : take (after - at) (drop at text) ≡ (bare (drop at text)).bytes
+    word_is =
+        let word = bare (drop at text) in
+        let size : after - at ≡ length word.bytes = let e = word_ends in omega arith in
+        rw size (ap (take (length word.bytes)) (sym (bare_whole (drop at text))) ∙ take-append_seam word.bytes word.rest)
 
 -- What `position` gives, or the length.
 pub or_length : {A : Type 0} (test : A → Bool) (xs : List A) (n : ℕ) → length xs ≡ n

@@ -1,9 +1,9 @@
 -- What the functions below the call promise.
 use Rattle.std.specs.Prelude.{◌≡◌, List, [], ◌++◌, Bool, true, false, ℕ, ◌+◌, ◌-◌, ◌*◌, ◌≤◌, ◌<◌, Option, unwrap_or, Result, Ok, Err, IfOk, length, get_or, set, drop, take, map}
 use Rattle.names.specs.Table.{Holds, slot_in}
-use Rattle.names.specs.declared.index.Lookup.{Lookup}
+use Rattle.names.specs.declared.lookup.Lookup.{Lookup}
 use Rattle.tokens.specs.Bytes.{is_upper_byte, head}
-use Rattle.tokens.specs.Tokens.{Got, bare, token}
+use Rattle.tokens.specs.Tokens.{Got, token}
 use Rattle.tokens.specs.Places.{LeftFrom}
 use Rattle.text.specs.Term.{Token, variable, name, Start, name_start, After, Read, term, arguments}
 use Rattle.text.specs.Naming.{entered, TokenNumber, number_of, TokenCells, naming}
@@ -24,22 +24,22 @@ pub use Rattle.text.specs.declared.variables.Variables.{Variables}
 
 -- The note at an index.
 abbrev pub note_at : List Note → ℕ → Note
-note_at notes i = get_or notes i (record { place = 0; shape = 0 })
+note_at notes i = get_or notes i (record { place = 0; after = 0; shape = 0 })
 
--- The token that a note says.
+-- The token that a note says. A variable's word ends where the note says that reading goes on.
 pub data Stands (text : List ℕ) (note : Note) : Token → Type 0 where
   a_variable : {word : List ℕ} → note.place ≤ length text → is_upper_byte (head (drop note.place text)) ≡ true → (token (drop note.place text)).bytes ≡ word
-      → note.shape ≡ 32768 → Stands text note (variable word)
+      → LeftFrom text (token (drop note.place text)).rest note.after → note.shape ≡ 32768 → Stands text note (variable word)
   a_name : {bytes : List ℕ} {arity : ℕ} → note.place ≤ length text → is_upper_byte (head (drop note.place text)) ≡ false → (token (drop note.place text)).bytes ≡ bytes
       → arity ≤ 8 → note.shape ≡ arity * 4096 → Stands text note (name bytes arity)
 
--- It stops with a refusal, and where no term can go on that is where the rest begins.
+-- It stops with a refusal, where the rest begins. The first two are those of numbers, and no reading stops with them.
 abbrev pub StopsAt : (text rest : List ℕ) → Refusal → Type 0
-StopsAt text rest (NoTerm place) = LeftFrom text rest place
 StopsAt text rest (Names refusal) = Unit {0}
 StopsAt text rest SeventeenthVariable = Unit {0}
-StopsAt text rest NoCell = Unit {0}
-StopsAt text rest EighthArgument = Unit {0}
+StopsAt text rest (NoCell place) = LeftFrom text rest place
+StopsAt text rest (NoTerm place) = LeftFrom text rest place
+StopsAt text rest (EighthArgument place) = LeftFrom text rest place
 
 pub record Stops (text rest : List ℕ) (fault : ℕ) (refusal : Refusal) : Type 0 where
   pub fault_is : number_of_refusal refusal ≡ fault
@@ -80,7 +80,7 @@ pub record Named (text : List ℕ) (at : ℕ) (begun : Begun) : Type 0 where
 -- With its token at a place.
 pub record Begins (text : List ℕ) (place : ℕ) (start : Start) (begun : Begun) : Type 0 where
   pub opening : Opening text start begun
-  pub stands : Stands text (record { place = place; shape = shape_begun begun }) start.token
+  pub stands : Stands text (record { place = place; after = place_begun begun; shape = shape_begun begun }) start.token
 
 abbrev pub BeginsAt : (text : List ℕ) → (place : ℕ) → Start → Result Begun Refusal → Type 0
 BeginsAt text place start (Ok begun) = Begins text place start begun
@@ -127,9 +127,12 @@ ReadsTerm text at argument from notes size notes' end =
 abbrev pub TermEnds : (text : List ℕ) → (at argument : ℕ) → (before after : Notes) → Result ℕ Refusal → Type 0
 TermEnds text at argument before after end = ReadsTerm text at argument before.size before.all after.size after.all end
 
--- The note of a name gets its arguments.
+-- The note of a name gets its arguments; where it begins and where reading goes on after it stay.
+abbrev pub counted : Note → (count : ℕ) → Note
+counted note count = record { place = note.place; after = note.after; shape = count * 4096 }
+
 abbrev pub with_arguments : List Note → (i count : ℕ) → List Note
-with_arguments notes i count = set notes i (record { place = (note_at notes i).place; shape = count * 4096 })
+with_arguments notes i count = set notes i (counted (note_at notes i) count)
 
 abbrev pub ReadsArguments : (text : List ℕ) → (at count i from : ℕ) → (notes : List Note) → (size : ℕ) → (notes' : List Note) → Result ℕ Refusal → Type 0
 ReadsArguments text at count i from notes size notes' end =
@@ -145,6 +148,10 @@ ArgumentsEnd text at count i before after end = ReadsArguments text at count i b
 abbrev pub number_in : Result ℕ Refusal → ℕ
 number_in (Ok number) = number
 number_in (Err refusal) = 0
+
+-- Where a token at a place begins as a variable does, its word ends within the text.
+abbrev pub WordEnds : (text : List ℕ) → (at after : ℕ) → Type 0
+WordEnds text at after = is_upper_byte (head (drop at text)) ≡ true → (at ≤ after) × (after ≤ length text)
 
 -- The words of the variables met.
 abbrev pub known_words : Variables → List (List ℕ)
@@ -195,9 +202,9 @@ pub record NumbersAll (table fresh : List ℕ) (held new : ℕ) (named : TokenCe
 abbrev pub FindsVariable : Variables → (word : List ℕ) → Option ℕ → Type 0
 FindsVariable variables word found = unwrap_or found variables.known ≡ slot_in (known_words variables) word
 
-abbrev pub NumbersVariables : (text : List ℕ) → (at : ℕ) → (before after : Variables) → Result ℕ Refusal → Type 0
-NumbersVariables text at before after r =
-    (names : List (List ℕ)) → NumbersVariable (known_words after) (number_of names (known_words before) (variable (bare (drop at text)).bytes)) r
+abbrev pub NumbersVariables : (word : List ℕ) → (before after : Variables) → Result ℕ Refusal → Type 0
+NumbersVariables word before after r =
+    (names : List (List ℕ)) → NumbersVariable (known_words after) (number_of names (known_words before) (variable word)) r
 
 abbrev pub EntersNames : Lookup → (before : Fresh) → (bytes : List ℕ) → (after : Fresh) → ℕ → Type 0
 EntersNames lookup before bytes after number =
@@ -209,9 +216,9 @@ NumbersNames text at lookup before after r =
     (names words : List (List ℕ)) (arity : ℕ) → GatheredNames lookup.table.now before.table lookup.held before.count names
     → NumbersName lookup.table.now after.table lookup.held after.count (number_of names words (name (token (drop at text)).bytes arity)) r
 
-abbrev pub NumbersAny : (text : List ℕ) → (at : ℕ) → Lookup → (variables : Variables) → (fresh : Fresh) → (variables' : Variables) → (fresh' : Fresh) → Result ℕ Refusal → Type 0
-NumbersAny text at lookup variables fresh variables' fresh' r =
-    (names : List (List ℕ)) (token : Token) (shape : ℕ) → Stands text (record { place = at; shape = shape }) token
+abbrev pub NumbersAny : (text : List ℕ) → (at after : ℕ) → Lookup → (variables : Variables) → (fresh : Fresh) → (variables' : Variables) → (fresh' : Fresh) → Result ℕ Refusal → Type 0
+NumbersAny text at after lookup variables fresh variables' fresh' r =
+    (names : List (List ℕ)) (token : Token) (shape : ℕ) → Stands text (record { place = at; after = after; shape = shape }) token
     → GatheredNames lookup.table.now fresh.table lookup.held fresh.count names
     → Numbers (known_words variables') lookup.table.now fresh'.table lookup.held fresh'.count (number_of names (known_words variables) token) r
 

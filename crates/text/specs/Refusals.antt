@@ -7,16 +7,16 @@ pub use Rattle.text.specs.declared.refusal.Refusal.TheVariants.{Names, Seventeen
 abbrev pub number_of_refusal : Refusal → ℕ
 number_of_refusal (Names refusal) = number_of_names refusal
 number_of_refusal SeventeenthVariable = 4
-number_of_refusal NoCell = 5
+number_of_refusal (NoCell place) = 5
 number_of_refusal (NoTerm place) = 20
-number_of_refusal EighthArgument = 21
+number_of_refusal (EighthArgument place) = 21
 
 abbrev pub place_of_refusal : Refusal → ℕ
 place_of_refusal (Names refusal) = 0
 place_of_refusal SeventeenthVariable = 0
-place_of_refusal NoCell = 0
+place_of_refusal (NoCell place) = 0
 place_of_refusal (NoTerm place) = place
-place_of_refusal EighthArgument = 0
+place_of_refusal (EighthArgument place) = 0
 
 -- 0 where nothing is refused.
 abbrev pub refusal_of : {A : Type 0} → Result A Refusal → ℕ

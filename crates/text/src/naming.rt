@@ -1,7 +1,7 @@
 // The tokens get their numbers.
 ghost use Rattle.std.specs.Prelude.{◌≡◌, ℕ, ◌+◌, ◌≤◌, ◌<◌, length, replicate, IfOk};
 ghost use Rattle.names.specs.Name.{IsName};
-ghost use Rattle.text.specs.Leaves.{note_at, EntersNames, NumbersNames, NumbersAny, NumbersTokens};
+ghost use Rattle.text.specs.Leaves.{note_at, WordEnds, EntersNames, NumbersNames, NumbersAny, NumbersTokens};
 
 use crate::fresh::Fresh;
 use crate::notes::{CELLS, Notes};
@@ -44,20 +44,22 @@ fn number_name(lookup: &Lookup, text: &[u8], at: usize, fresh: &mut Fresh) -> Re
     Ok(enter_name(lookup, fresh, name))
 }
 
-// A token, by its first byte.
+// A token, by its first byte. A variable's word ends where reading went on after it, so it isn't gone over again.
 fn number_token<'a>(
     lookup: &Lookup,
     text: &'a [u8],
     at: usize,
+    after: usize,
     variables: &mut Variables<'a>,
     fresh: &mut Fresh,
 ) -> Result<usize, Refusal>
-    requires { (fresh.old.count < 32) × (at ≤ length text.now) }
+    requires within { (fresh.old.count < 32) × (at ≤ length text.now) }
+    requires word_ends { WordEnds text.now at after }
     ensures on { (fresh.new.count ≤ fresh.old.count + 1) × IfOk result (λ number. number ≤ 1056) }
-    ensures is { NumbersAny text.now at lookup.now variables.old fresh.old variables.new fresh.new result }
+    ensures is { NumbersAny text.now at after lookup.now variables.old fresh.old variables.new fresh.new result }
 {
     if tokens::is_upper(tokens::first(text, at)) {
-        variables.number(text, at)
+        variables.number(&text[at..after])
     } else {
         number_name(lookup, text, at, fresh)
     }
@@ -73,13 +75,14 @@ pub fn number_all(
     requires no_names { (fresh.old.table ≡ replicate 1024 0) × (fresh.old.count ≡ 0) }
     requires noted { (i : ℕ) → i < notes.now.size
         → ((note_at notes.now.all i).place ≤ length text.now) × ((note_at notes.now.all i).shape ≤ 32768) }
+    requires words_end { (i : ℕ) → i < notes.now.size → WordEnds text.now (note_at notes.now.all i).place (note_at notes.now.all i).after }
     ensures { NumbersTokens text.now lookup.now notes.now fresh.new result }
 {
     let mut variables = Variables::none(text);
     let mut cells = [0u16; CELLS];
     for i in 0..notes.size {
         let note = notes.all[i];
-        let number = number_token(lookup, text, note.place, &mut variables, fresh)?;
+        let number = number_token(lookup, text, note.place, note.after, &mut variables, fresh)?;
         cells[i] = (note.shape + number) as u16;
     }
     Ok(cells)

@@ -1,13 +1,15 @@
-// The notes of a reading: for each cell the place and the shape of its token.
+// The notes of a reading: for each cell the place of its token, the place after it, and its shape.
 ghost use Rattle.std.specs.Prelude.{◌≡◌, ◌+◌, ◌<◌, ◌≤◌, length, set};
 
 // The cells of a term.
 pub const CELLS: usize = 32;
 
-// Where the token of a cell begins, and its shape: the cell without its number.
+// Where the token of a cell begins; where reading goes on after it, of a name with a bracket after the bracket; and its shape: the cell
+// without its number.
 #[derive(Clone, Copy, Debug, PartialEq, Eq)]
 pub struct Note {
     pub place: usize,
+    pub after: usize,
     pub shape: usize,
 }
 
@@ -25,7 +27,11 @@ impl Notes {
         ensures { result.size ≡ 0 }
     {
         Notes {
-            all: [Note { place: 0, shape: 0 }; CELLS],
+            all: [Note {
+                place: 0,
+                after: 0,
+                shape: 0,
+            }; CELLS],
             size: 0,
         }
     }

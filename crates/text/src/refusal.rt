@@ -6,18 +6,19 @@ use std::error::Error;
 use std::fmt;
 use tokens::Broken;
 
-// What the name table refuses; the seventeenth variable; no cell left of the 32; a place where no term can go on; an eighth argument.
+// What the name table refuses; the seventeenth variable; and with the place where the reading stopped: no cell left of the 32, no term
+// can go on, an eighth argument.
 #[derive(Clone, Copy, Debug, PartialEq, Eq)]
 pub enum Refusal {
     Names(names::refusal::Refusal),
     SeventeenthVariable,
-    NoCell,
+    NoCell(usize),
     NoTerm(usize),
-    EighthArgument,
+    EighthArgument(usize),
 }
 
 impl Refusal {
-    // The place that is told with the refusal.
+    // The place that is told with the refusal: C is told only that of 20.
     pub fn place(self) -> usize
         ensures { result ≡ place_of_refusal self }
     {
@@ -36,9 +37,9 @@ impl From<Refusal> for u64 {
         match refusal {
             Refusal::Names(refusal) => u64::from(refusal),
             Refusal::SeventeenthVariable => 4,
-            Refusal::NoCell => 5,
+            Refusal::NoCell(_) => 5,
             Refusal::NoTerm(_) => 20,
-            Refusal::EighthArgument => 21,
+            Refusal::EighthArgument(_) => 21,
         }
     }
 }
@@ -48,9 +49,9 @@ impl fmt::Display for Refusal {
         match self {
             Refusal::Names(refusal) => write!(f, "{refusal}"),
             Refusal::SeventeenthVariable => f.write_str("a term has at most 16 variables"),
-            Refusal::NoCell => f.write_str("a term has at most 32 cells"),
+            Refusal::NoCell(_) => f.write_str("a term has at most 32 cells"),
             Refusal::NoTerm(place) => write!(f, "no term can go on at byte {place}"),
-            Refusal::EighthArgument => f.write_str("a name has at most 7 arguments"),
+            Refusal::EighthArgument(_) => f.write_str("a name has at most 7 arguments"),
         }
     }
 }

@@ -1,4 +1,5 @@
-// The tokens of a term: where each begins, and its shape. A term calls for its arguments and they call for terms.
+// The tokens of a term: where each begins, where reading goes on after it, and its shape. A term calls for its arguments and they call
+// for terms.
 ghost use Rattle.std.specs.Prelude.{◌-◌, ◌≤◌, ◌<◌, length, drop, IfOk};
 ghost use Rattle.tokens.specs.Tokens.{skip};
 ghost use Rattle.text.specs.Term.{start_of, mark};
@@ -56,10 +57,10 @@ fn start(text: &[u8], at: usize, argument: usize, from: usize) -> Result<Begun, 
         return Err(Refusal::NoTerm(at));
     }
     if argument == 8 {
-        return Err(Refusal::EighthArgument);
+        return Err(Refusal::EighthArgument(at));
     }
     if from == CELLS {
-        return Err(Refusal::NoCell);
+        return Err(Refusal::NoCell(at));
     }
     let mut buffer = [0u8; 32];
     let after = tokens::token(text, at, &mut buffer).end?;
@@ -96,12 +97,17 @@ pub fn term(text: &[u8], at: usize, argument: usize, notes: &mut Notes) -> Resul
     let from = notes.size;
     match start(text, at, argument, from)? {
         Begun::Alone { shape, after } => {
-            notes.push(Note { place: at, shape });
+            notes.push(Note {
+                place: at,
+                after,
+                shape,
+            });
             Ok(after)
         }
         Begun::Opens { after } => {
             notes.push(Note {
                 place: at,
+                after,
                 shape: 0,
             });
             arguments(text, after, 0, from, notes)

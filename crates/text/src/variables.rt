@@ -1,6 +1,5 @@
 // The variables of a term, each by its word in the text.
-ghost use Rattle.std.specs.Prelude.{◌≡◌, ◌≤◌, length, drop};
-ghost use Rattle.tokens.specs.Tokens.{bare};
+ghost use Rattle.std.specs.Prelude.{◌≡◌, ◌≤◌, length};
 
 use crate::refusal::Refusal;
 
@@ -14,19 +13,6 @@ pub struct Variables<'a> {
     known: usize,
     ghost room: { length words ≡ 16 },
     ghost few: { known ≤ 16 },
-}
-
-// The word that begins at a place.
-fn word(text: &[u8], at: usize) -> &[u8]
-    requires { at ≤ length text.now }
-    ensures { result.now ≡ (bare (drop at text.now)).bytes }
-{
-    let rest = &text[at..];
-    let end = rest
-        .iter()
-        .position(|byte| !tokens::is_word(*byte))
-        .unwrap_or(rest.len());
-    &rest[..end]
 }
 
 impl<'a> Variables<'a> {
@@ -52,13 +38,11 @@ impl<'a> Variables<'a> {
             .position(|known| *known == word)
     }
 
-    // A variable's number; the seventeenth is refused.
-    pub fn number(&mut self, text: &'a [u8], at: usize) -> Result<usize, Refusal>
-        requires { at ≤ length text.now }
+    // The number of the variable with a word, which is entered if it is new; the seventeenth is refused.
+    pub fn number(&mut self, word: &'a [u8]) -> Result<usize, Refusal>
         ensures on { IfOk result (λ number. number < 16) }
-        ensures is { NumbersVariables text.now at self.old self.new result }
+        ensures is { NumbersVariables word.now self.old self.new result }
     {
-        let word = word(text, at);
         if let Some(number) = self.find(word) {
             return Ok(number);
         }

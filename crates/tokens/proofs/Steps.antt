@@ -11,19 +11,18 @@ use borrow.Author.Tests.{eq-eqb, ne_eqb}
 use Rattle.deciding.specs.Deciding.{pick}
 use Rattle.tokens.specs.Bytes.{either, is_word_byte, is_blank_byte, is_escaped_byte, head, tail}
 use Rattle.tokens.specs.Tokens.{skip, comment, Got, got, more, bare, quoted, escaped, token}
-use Rattle.tokens.specs.Laws.{skip_in}
 use Rattle.tokens.specs.Places.{Broken, Ended, Keeps, fault_of, place_of, ended, TokenEnds}
 use Rattle.tokens.specs.Ahead.{here, ends, begins_with, head_in}
 
--- One byte of a gap, in a comment or not.
+-- One byte of a gap.
 module _ (text : List ℕ) (i : ℕ) (l : i < length text) where
-  pub comment_byte : skip_in (not (eqb (get_or text i 0) 10)) (drop (i + 1) text) ≡ comment (drop i text)
+  pub comment_newline : get_or text i 0 ≡ 10 → skip (drop i text) ≡ comment (drop i text)
+  unfolding skip comment either
+  comment_newline e = rw (begins_with text i l, e)
+
+  pub comment_on : (get_or text i 0 ≡ 10 → ⊥) → comment (drop (i + 1) text) ≡ comment (drop i text)
   unfolding comment
-  comment_byte = rw (begins_with text i l) (go (eqb (get_or text i 0) 10))
-    where
-      go : (b : Bool) → skip_in (not b) (drop (i + 1) text) ≡ pick b (skip (drop (i + 1) text)) (comment (drop (i + 1) text))
-      go true = refl
-      go false = refl
+  comment_on d = rw (begins_with text i l, ne_eqb _ _ d)
 
   pub gap_blank : true ≡ is_blank_byte (get_or text i 0) → skip (drop (i + 1) text) ≡ skip (drop i text)
   unfolding skip
@@ -37,11 +36,15 @@ module _ (text : List ℕ) (i : ℕ) (l : i < length text) where
   unfolding skip
   gap_stop e d = rw (begins_with text i l, ← e, ne_eqb _ _ d)
 
--- At the end nothing is left of either.
-pub gap_over : (text : List ℕ) (i : ℕ) (in_comment : Bool) → length text ≤ i → drop (length text) text ≡ skip_in in_comment (drop i text)
-unfolding skip comment
-gap_over text i true l = rw (ends text i l, ends text (length text) (omega arith))
-gap_over text i false l = rw (ends text i l, ends text (length text) (omega arith))
+-- At the end.
+module _ (text : List ℕ) (i : ℕ) (l : length text ≤ i) where
+  pub comment_over : skip (drop i text) ≡ comment (drop i text)
+  unfolding skip comment
+  comment_over = rw (ends text i l)
+
+  pub gap_over : drop i text ≡ skip (drop i text)
+  unfolding skip
+  gap_over = rw (ends text i l)
 
 -- One byte more in the buffer.
 pub put_room : (buffer : List ℕ) (n byte : ℕ) (bytes : List ℕ) → length buffer ≡ 32 → n < 32 → Keeps buffer n bytes

@@ -13,7 +13,10 @@ pub fn is_upper(byte: u8) -> bool
 pub fn is_word(byte: u8) -> bool
     ensures { result ≡ is_word_byte byte }
 {
-    byte.is_ascii_alphanumeric() || byte == b'_'
+    if byte.is_ascii_alphabetic() {
+        return true;
+    }
+    byte.is_ascii_digit() || byte == b'_'
 }
 
 pub fn is_blank(byte: u8) -> bool

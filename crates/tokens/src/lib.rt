@@ -4,7 +4,7 @@
 mod bytes;
 
 ghost use Rattle.std.specs.Prelude.{◌≡◌, List, [], ◌∷◌, ◌++◌, ℕ, ◌≤◌, length, drop};
-ghost use Rattle.tokens.specs.Tokens.{skip, bare, quoted, token};
+ghost use Rattle.tokens.specs.Tokens.{skip, comment, bare, quoted, token};
 ghost use Rattle.tokens.specs.Places.{LeftFrom, Keeps, ended, TokenEnds};
 
 pub use bytes::{begins, first, is_upper, is_word};
@@ -36,23 +36,37 @@ pub struct Ended {
 
 // Text and place stay apart, as docs/CONTRACTS.md has them for gap and token: a struct of both would be made anew at each step.
 
-// The place past space, tab, newline and comments.
-pub fn gap(text: &[u8], at: usize) -> usize
+// The place of the newline that ends the comment, or the text's end.
+fn comment_end(text: &[u8], at: usize) -> usize
     requires { at ≤ length text.now }
-    ensures { LeftFrom text.now (skip (drop at text.now)) result }
+    ensures { (at ≤ result) × (result ≤ length text.now) × (skip (drop result text.now) ≡ comment (drop at text.now)) }
 {
-    let mut in_comment = false;
     for i in at..text.len() {
-        let byte = text[i];
-        if in_comment {
-            in_comment = byte != b'\n';
-        } else if byte == b'%' {
-            in_comment = true;
-        } else if !is_blank(byte) {
+        if text[i] == b'\n' {
             return i;
         }
     }
     text.len()
+}
+
+// The place past space, tab, newline and comments. By an index that a comment moves on: a `for` that asks at each byte whether a comment is
+// open takes up to twice the time on long gaps.
+pub fn gap(text: &[u8], at: usize) -> usize
+    requires { at ≤ length text.now }
+    ensures { LeftFrom text.now (skip (drop at text.now)) result }
+{
+    let mut i = at;
+    while i < text.len() {
+        let byte = text[i];
+        if is_blank(byte) {
+            i += 1;
+        } else if byte == b'%' {
+            i = comment_end(text, i + 1);
+        } else {
+            return i;
+        }
+    }
+    i
 }
 
 // The bytes of a token so far, the first 32 of them in a buffer: a 32nd shows that it is too long for a name.

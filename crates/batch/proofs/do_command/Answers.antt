@@ -5,7 +5,7 @@ use Rattle.batch.proofs.do_command.Goals as goal
 
 pub returns-in-Err : goal.returns-in-Err
 returns-in-Err c =
-    stopped c.args.book.now c.args.book.now c.args.out.now _ c.args.behind.now _ c.args.read c.in-Err.refusal _ c.in-Err.is c.from.ensures c.requires.passing c.put_bare.ensures
+    stopped c.args.book.now c.args.book.now c.args.out.now _ c.args.behind.now _ c.args.read c.in-Err.refused _ c.in-Err.is c.from.ensures c.requires.passing c.put_bare.ensures
 
 pub add-requires-clause-term : goal.add-requires-clause-term
 add-requires-clause-term c = whole c.args.behind.now c.args.read c.in-Ok.command _ c.requires.read c.in-Ok.is c.in-Add.is refl

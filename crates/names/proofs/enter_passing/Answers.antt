@@ -1,5 +1,5 @@
 -- Each way out is one case of the answer.
-use Rattle.std.proofs.Common.{[], ℕ, ◌<◌, length, get_or, refl, sym, ap, subst, ◌∙◌, arith}
+use Rattle.std.proofs.Common.{[], ℕ, ◌<◌, length, get_or, refl, sym, ap, subst, ◌∙◌, arith, rules, ◌≡◌, None}
 use Rattle.names.specs.Table.{Holds, Missing, slot_in}
 use Rattle.names.specs.Cases.{no_name, held, new, no_slot, slot_has, slot_none}
 use Rattle.names.specs.Once.{passes}
@@ -21,7 +21,8 @@ returns-in-Some c =
 pub returns-then-free-eq0 : goal.returns-then-free-eq0
 returns-then-free-eq0 c =
     let k = c.requires.0 in
-    let e = c.in_default.ensures.1 k.names _ k.holds k.count in
+    let none : c.look_up_in-found.result ≡ None = search rules in
+    let e = rw none at (c.look_up_in-found.ensures.1 k.names _ k.holds k.count) in
     let missing = slot_none k.names _ k.holds.apart (omega (arith, e, k.count)) in
     enters_so _ (no_slot (subst (Holds _ k.names) c.if-free-eq0.true k.holds) (c.is_name.ensures.yes c.if-not-is_name.false) missing) refl
 

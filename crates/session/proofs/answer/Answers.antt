@@ -9,5 +9,5 @@ pub returns : goal.returns
 returns c =
     let number : stop_of c.run-ended.result.stop ≡ c.map_or-stop.result = search rules in
     let h = subst (λ (k : ℕ). Came c.args.cells.now c.run-ended.new.output k c.run-ended.result.used c.run-ended.result.written) number
-    (came c.empty.ensures c.run-ended.ensures) in
+    (came c.empty.ensures c.run-ended.ensures.runs) in
     answered h (c.run-ended.auto.output ∙ length-replicate {A = ℕ} 4096 0) c.requires c.put_listing.ensures

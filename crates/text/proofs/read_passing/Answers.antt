@@ -1,11 +1,14 @@
 -- Each way out is one case of the answer.
 use Rattle.std.proofs.Common.{arith}
 use Rattle.std.proofs.lemmas.Result.{err_from_is_err_and}
-use Rattle.text.proofs.Answering.{table_length, notes_bounds, reads_unnamed, reads_no_term, reads_no_slot, reads_term}
+use Rattle.text.proofs.Answering.{table_length, notes_bounds, notes_words, reads_unnamed, reads_no_term, reads_no_slot, reads_term}
 use Rattle.text.proofs.read_passing.Goals as goal
 
 pub number_all-requires-clause-noted : goal.number_all-requires-clause-noted
 number_all-requires-clause-noted c = notes_bounds _ _ c.gap-begin.ensures _ _ _ _ (rw c.none-notes.ensures at c.term-end.ensures.is)
+
+pub number_all-requires-clause-words_end : goal.number_all-requires-clause-words_end
+number_all-requires-clause-words_end c = notes_words _ _ c.gap-begin.ensures _ _ _ _ (rw c.none-notes.ensures at c.term-end.ensures.is)
 
 pub returns-in_err-cells : goal.returns-in_err-cells
 returns-in_err-cells c =

@@ -1,26 +1,21 @@
 -- A blank and a comment are passed; at any other byte, and at the end, nothing is left of the gap.
-use Rattle.std.proofs.Common.{◌∙◌, rules}
-use Rattle.tokens.proofs.Steps.{comment_byte, gap_blank, gap_comment, gap_stop, gap_over}
-use Rattle.tokens.proofs.gap.Goals.{then-in_comment, else-in_comment+then-byte-eq37, else-in_comment+else-byte-eq37+else-not-is_blank}
+use Rattle.std.proofs.Common.{◌∙◌, arith, rules}
+use Rattle.tokens.proofs.Steps.{gap_blank, gap_comment, gap_stop, gap_over}
 use Rattle.tokens.proofs.gap.Goals as goal
 
-pub returns-then-not-is_blank : goal.returns-then-not-is_blank
-returns-then-not-is_blank c = record {
-  rest_is = gap_stop _ _ c.loop-i-test.true c.if-not-is_blank.ensures c.if-byte-eq37.false ∙ rw c.if-in_comment.false at c.loop-i.invariant;
-  within = search rules;
-}
+pub loop-i-preserved-then-is_blank : goal.loop-i-preserved-then-is_blank
+loop-i-preserved-then-is_blank c =
+    (omega arith, gap_blank _ _ c.loop-i-test.true c.if-is_blank.ensures ∙ c.loop-i.invariant.1)
 
 pub loop-i-preserved : goal.loop-i-preserved
 loop-i-preserved c =
-    elim c.if-in_comment.branch [
-      | then-in_comment w ↦
-          rw w.in_comment-is (comment_byte _ _ c.loop-i-test.true ∙ rw w.if-in_comment.true at c.loop-i.invariant)
-      | else-in_comment+then-byte-eq37 w ↦
-          rw w.in_comment-is (gap_comment _ _ c.loop-i-test.true w.if-byte-eq37.true ∙ rw w.if-in_comment.false at c.loop-i.invariant)
-      | else-in_comment+else-byte-eq37+else-not-is_blank w ↦
-          rw (w.in_comment-is, w.if-in_comment.false)
-          (gap_blank _ _ c.loop-i-test.true w.if-not-is_blank.ensures ∙ rw w.if-in_comment.false at c.loop-i.invariant)
-    ]
+    (search rules, c.comment_end-i.ensures.2 ∙ gap_comment _ _ c.loop-i-test.true c.if-byte-eq37.true ∙ c.loop-i.invariant.1)
+
+pub returns-else-byte-eq37 : goal.returns-else-byte-eq37
+returns-else-byte-eq37 c = record {
+  rest_is = gap_stop _ _ c.loop-i-test.true c.if-is_blank.ensures c.if-byte-eq37.false ∙ c.loop-i.invariant.1;
+  within = search rules;
+}
 
 pub returns : goal.returns
-returns c = record { rest_is = gap_over _ _ c.loop-i.in_comment c.loop-i-test.false ∙ c.loop-i.invariant; within = search rules }
+returns c = record { rest_is = gap_over _ _ c.loop-i-test.false ∙ c.loop-i.invariant.1; within = search rules }

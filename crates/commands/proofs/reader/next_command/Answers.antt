@@ -1,10 +1,11 @@
 -- The next cell and the cells behind it say what the cells from the place on say.
 use Rattle.std.proofs.Common.{◌≡◌, refl, sym, ap, ◌∙◌, List, Bool, true, false, ℕ, ◌+◌, length, get_or, drop, drop-cons, drop_of_length-le, ltb-true, ltb-false}
-use Rattle.std.specs.Prelude.{ltb, Some}
+use Rattle.std.specs.Prelude.{ltb, Some, Err}
 use Rattle.std.specs.Borrow.{Bor}
 use Rattle.deciding.specs.Deciding.{pick}
 use Rattle.commands.specs.Reader.{cell_in, past}
-use Rattle.commands.specs.Commands.{command_of, command_in}
+use Rattle.commands.specs.declared.reader.Reader.{Reader}
+use Rattle.commands.specs.Commands.{RefusedCommand, command_of, command_in}
 use Rattle.commands.specs.Laws.{first_cell}
 use Rattle.commands.proofs.reader.next_command.Goals as goal
 
@@ -19,10 +20,19 @@ module _ (cells : List ℕ) (at c : ℕ) (here : Some c ≡ cell_in (drop at cel
   behind : Some (command_of c (drop (past cells at) cells)) ≡ command_in (drop at cells)
   behind = by_test (ltb at (length cells)) refl
 
-pub returns : goal.returns
-returns c =
-    let r = c.args.r in
-    ap Some c.command_of.ensures
-    ∙ ap (λ (x : Bor (List ℕ)). Some (command_of c.in_ok-c.c (drop c.moved_on.result.at x.now))) c.moved_on.ensures.0
-    ∙ ap (λ (k : ℕ). Some (command_of c.in_ok-c.c (drop k r.cells.now))) c.moved_on.ensures.1
-    ∙ behind r.cells.now r.at c.in_ok-c.c c.in_ok-c.ensures
+module _ (r : Reader) (after : Reader) (c : ℕ) (here : Some c ≡ cell_in (drop r.at r.cells.now)) (same : after.cells ≡ r.cells) (on : after.at ≡ past r.cells.now r.at) where
+  read_so : Some (command_of c (drop after.at after.cells.now)) ≡ command_in (drop r.at r.cells.now)
+  read_so =
+      ap (λ (x : Bor (List ℕ)). Some (command_of c (drop after.at x.now))) same ∙ ap (λ (k : ℕ). Some (command_of c (drop k r.cells.now))) on
+      ∙ behind r.cells.now r.at c here
+
+pub returns-in-Ok : goal.returns-in-Ok
+returns-in-Ok c =
+    let read = rw c.in-Ok.is at c.command_of.ensures in
+    ap Some read ∙ read_so c.args.r c.moved_on.result c.in_ok-c.c c.in_ok-c.ensures c.moved_on.ensures.0 c.moved_on.ensures.1
+
+pub returns-in-Err : goal.returns-in-Err
+returns-in-Err c =
+    let read = rw c.in-Err.is at c.command_of.ensures in
+    ap (λ (x : RefusedCommand). Some (Err x)) c.refused.ensures ∙ ap Some read
+    ∙ read_so c.args.r c.moved_on.result c.in_ok-c.c c.in_ok-c.ensures c.moved_on.ensures.0 c.moved_on.ensures.1

@@ -11,17 +11,16 @@ returns-in-Some-clause-is c =
     let room : length v.words ≡ 16 = v.room in
     let many = known_many v.words v.known (omega arith) in
     λ names.
-    rw (← c.word-word.ensures)
-    (variable_old names (known_words v) c.word-word.result.now _ refl (omega arith) _ c.in-Some.ensures.is (omega (arith, c.in-Some.ensures.within)))
+    variable_old names (known_words v) c.args.word.now _ refl (omega arith) _ c.in-Some.ensures.is (omega (arith, c.in-Some.ensures.within))
 
 pub returns-then-number-eq-VARIABLES-clause-is : goal.returns-then-number-eq-VARIABLES-clause-is
 returns-then-number-eq-VARIABLES-clause-is c =
-    λ names. rw (← c.word-word.ensures) (variable_over names (known_words c.args.self.now) c.word-word.result.now _ refl (omega (arith, c.in_default.ensures.is)))
+    λ names. variable_over names (known_words c.args.self.now) c.args.word.now _ refl (omega (arith, c.in_default.ensures.is))
 
 pub returns-clause-is : goal.returns-clause-is
 returns-clause-is c =
     let v = c.args.self.now in
     let room : length v.words ≡ 16 = v.room in
     let many = known_many v.words v.known (omega arith) in
-    let more = known_more v.words v.known c.word-word.result (omega arith) in
-    λ names. rw (← c.word-word.ensures) (variable_new names (known_words v) c.word-word.result.now _ more _ (omega arith) c.in_default.ensures.is (omega arith))
+    let more = known_more v.words v.known c.args.word (omega arith) in
+    λ names. variable_new names (known_words v) c.args.word.now _ more _ (omega arith) c.in_default.ensures.is (omega arith)

@@ -1,6 +1,6 @@
 -- One slot is compared, and its link leads further down.
 use Rattle.names.proofs.Indexing.{chain_on}
-use Rattle.names.proofs.index.Lookup.find.Goals as goal
+use Rattle.names.proofs.lookup.Lookup.find.Goals as goal
 
 pub loop-next-preserved : goal.loop-next-preserved
 loop-next-preserved c =
