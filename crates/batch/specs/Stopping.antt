@@ -7,7 +7,7 @@ use Rattle.commands.specs.Commands.{refusal_number, command_in}
 use Rattle.commands.specs.Laws.{refusal_low, low_refusal}
 use Rattle.batch.specs.declared.Stop.{Stop}
 use Rattle.batch.specs.declared.Stop.TheVariants.{NotABook, Refused, NoRoom}
-use Rattle.batch.specs.Run.{stop_number, stop_of}
+use Rattle.batch.specs.Run.{stop_of}
 
 -- A refusal that is told is that of the command behind the cells used.
 abbrev pub Because : List ℕ → ℕ → Option Stop → Type 0
