@@ -6,7 +6,7 @@ use native.Mathlib.Omega.{arith}
 use borrow.Author.Tests.{eq-eqb, ne_eqb, lt-ltb, le-ltb}
 use lib.ListN.{length, get_or, replicate, length-append, length-replicate}
 use Rattle.std.specs.Prelude.{Bool, true, false, eqb, ltb, Result, Ok, Err}
-use Rattle.deciding.specs.Deciding.{pick, true_not_false}
+use Rattle.deciding.specs.Deciding.{pick}
 use Rattle.names.specs.declared.refusal.Refusal.TheVariants.{NoTable, NoName, NoSlot, NoNumber}
 use Rattle.names.specs.Name.{passes_as_name}
 use Rattle.names.specs.Table.{Holds, slot_in, slots_of}
@@ -22,7 +22,7 @@ use Rattle.text.specs.Steps.{cells_many}
 use Rattle.text.specs.Text.{Answer, refused, padded, term_of, read_text}
 use Rattle.text.specs.Promises.{told, refused_read, table_of, Reads, has_read}
 use Rattle.text.specs.Refusals.{Refusal, Names, SeventeenthVariable, NoCell, NoTerm, EighthArgument, number_of_refusal, place_of_refusal}
-use Rattle.text.specs.Leaves.{Note, note_at, Stands, a_variable, a_name, Stops, ReadEnds, ReadsTerm, WordEnds, GatheredNames, Tokens, NumbersAll}
+use Rattle.text.specs.Leaves.{Note, note_at, Stands, a_variable, a_name, GoesOnAt, IsNote, Stops, ReadEnds, ReadsTerm, WordEnds, GatheredNames, Tokens, NumbersAll}
 use Rattle.text.proofs.Words.{upper_left, word_ends}
 use Rattle.text.proofs.Reading.{refused_above}
 
@@ -32,15 +32,16 @@ table_length {t} {names} {free} h =
 
 -- A note has one cell.
 stands_bounds : {text : List ℕ} {note : Note} {token : Token} → Stands text note token → (note.place ≤ length text) × (note.shape ≤ 32768)
-stands_bounds (a_variable p u w e s) = (p, omega arith)
+stands_bounds (a_variable p u w s) = (p, omega arith)
 stands_bounds (a_name p u w l s) = (p, omega arith)
 
 -- A variable's word ends behind its place.
-stands_word : {text : List ℕ} {note : Note} {token : Token} → Stands text note token → WordEnds text note.place note.after
-stands_word {text} {note} (a_variable p u w e s) o =
+note_word : {text : List ℕ} {note : Note} {token : Token} → IsNote text note token → WordEnds text note.place note.after
+note_word {text} {note} n o =
+    let p = (stands_bounds n.stands).0 in
+    let e = n.goes_on o in
     let ends = word_ends text note.place note.after p (upper_left text note.place note.after o e) in
     (omega arith, e.within)
-stands_word (a_name p u w l s) o = absurd (true_not_false o u)
 
 -- A token is refused by 4 or 11, and no place is told with these.
 token_small : (names words : List (List ℕ)) (token : Token) → (number_of names words token).refusal ≤ 11
@@ -93,8 +94,11 @@ module _ (text : List ℕ) (begin : ℕ) (gap : LeftFrom text (skip text) begin)
   ends : ReadEnds text 0 notes size notes' end (term_of text)
   ends = rw gap.rest_is at (e 66 (omega arith))
 
+  tokens_noted : (i : ℕ) → i < length (term_of text).tokens → IsNote text (note_at notes' i) (get_or (term_of text).tokens i (variable []))
+  tokens_noted i l = let z : 0 + i ≡ i = omega arith in rw z at (ends.notes_are.noted i l)
+
   tokens_stand : (i : ℕ) → i < length (term_of text).tokens → Stands text (note_at notes' i) (get_or (term_of text).tokens i (variable []))
-  tokens_stand i l = let z : 0 + i ≡ i = omega arith in rw z at (ends.notes_are.noted i l)
+  tokens_stand i l = (tokens_noted i l).stands
 
   size_is : size ≡ length (term_of text).tokens
   size_is = ends.size_is ∙ omega arith
@@ -103,18 +107,19 @@ module _ (text : List ℕ) (begin : ℕ) (gap : LeftFrom text (skip text) begin)
   notes_bounds i l = stands_bounds (tokens_stand i (omega (arith, size_is)))
 
   pub notes_words : (i : ℕ) → i < size → WordEnds text (note_at notes' i).place (note_at notes' i).after
-  notes_words i l = stands_word (tokens_stand i (omega (arith, size_is)))
+  notes_words i l = note_word (tokens_noted i (omega (arith, size_is)))
 
   -- .. and once its tokens have their numbers.
   module _ {before : List ℕ} {names : List (List ℕ)} {free : ℕ} (h : Holds before names free) (held : ℕ) (count : length names ≡ held)
       (fresh : List ℕ) (new : ℕ) (r : Result (List ℕ) Refusal)
-      (n : (names : List (List ℕ)) (free : ℕ) (tokens : List Token) → Holds before names free → length names ≡ held → length tokens ≡ size → Tokens text notes' tokens
+      (n : ((i : ℕ) → i < size → GoesOnAt text (note_at notes' i).place (note_at notes' i).after)
+      → (names : List (List ℕ)) (free : ℕ) (tokens : List Token) → Holds before names free → length names ≡ held → length tokens ≡ size → Tokens text notes' tokens
       → NumbersAll before fresh held new (naming names [] tokens) r) where
     abbrev given : TokenCells
     given = naming names [] (term_of text).tokens
 
     all : NumbersAll before fresh held new given r
-    all = n names free (term_of text).tokens h count (sym size_is) (record { stands = tokens_stand })
+    all = n (λ i l. (tokens_noted i (omega (arith, size_is))).goes_on) names free (term_of text).tokens h count (sym size_is) (record { stands = tokens_stand })
 
     -- Refused.
     same_table : before ≡ table_of (length names + free) names

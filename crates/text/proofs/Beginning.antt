@@ -128,7 +128,7 @@ module _ (text : List ℕ) (at argument from byte : ℕ) (l : at ≤ length text
             (rw (← is, ← b, ne_eqb argument 8 d, ne_eqb (32 - from) 0 left_over, ← u))
             (record {
               opening = record { goes = record { fine = refl; left = left }; opens_is = refl };
-              stands = a_variable l (ap is_upper_byte (sym is) ∙ sym u) refl left refl;
+              stands = record { stands = a_variable l (ap is_upper_byte (sym is) ∙ sym u) refl refl; goes_on = λ o. left };
             })
 
         pub start_name : false ≡ is_upper_byte byte → (r : Begun) → (token (drop at text)).fault ≡ 0 → shape_begun r ≡ 0
@@ -138,7 +138,10 @@ module _ (text : List ℕ) (at argument from byte : ℕ) (l : at ≤ length text
             begun (Ok r) (name_start (token (drop at text))) (rw (← is, ← b, ne_eqb argument 8 d, ne_eqb (32 - from) 0 left_over, ← u))
             (record {
               opening = o;
-              stands = rw (name_token (token (drop at text)) z) (a_name {arity = 0} l (ap is_upper_byte (sym is) ∙ sym u) refl (omega arith) s);
+              stands = record {
+                stands = rw (name_token (token (drop at text)) z) (a_name {arity = 0} l (ap is_upper_byte (sym is) ∙ sym u) refl (omega arith) s);
+                goes_on = λ o. absurd (true_not_false o (ap is_upper_byte (sym is) ∙ sym u));
+              };
             })
 
         -- A name in quotes that is broken off.

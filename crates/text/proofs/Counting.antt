@@ -52,7 +52,7 @@ going_start text table held names free tokens fresh new e f h c = record {
 }
 
 stands_shape : {text : List ℕ} {note : Note} {token : Token} → Stands text note token → note.shape ≡ shape_of token
-stands_shape (a_variable p u w e s) = s
+stands_shape (a_variable p u w s) = s
 stands_shape (a_name p u w l s) = s
 
 -- One cell more.

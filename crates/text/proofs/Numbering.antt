@@ -16,14 +16,13 @@ use Rattle.names.specs.Table.{slot_in, put}
 use Rattle.names.specs.Cases.{is_name, not_name, slot_none, slot_left, slot_right, slot_within}
 use Rattle.names.specs.Entering.{more_length, put_holds}
 use Rattle.tokens.specs.Bytes.{is_upper_byte, head}
-use Rattle.tokens.specs.Tokens.{Got, token}
+use Rattle.tokens.specs.Tokens.{Got, bare, token}
 use Rattle.tokens.specs.Places.{Keeps}
 use Rattle.text.specs.Term.{Token, variable, name}
 use Rattle.text.specs.Naming.{entered, numbered, number_of}
 use Rattle.text.specs.Refusals.{Refusal, Names, SeventeenthVariable}
 use Rattle.text.specs.Leaves.{Stands, a_variable, a_name, GatheredNames, NumbersVariable, NumbersName, Numbers, EntersName}
 use Rattle.text.proofs.Beginning.{upper_bare}
-use Rattle.text.proofs.Words.{upper_left, word_is}
 
 -- A word among others, held or new.
 pub entered_old : (words : List (List ℕ)) (word : List ℕ) → slot_in words word < length words → entered words word ≡ words
@@ -140,22 +139,20 @@ words_stay names words bytes arity = go (passes_as_name bytes)
     go false = refl
 
 -- A token, by its first byte.
-module _ (text : List ℕ) (at after : ℕ) (known : List (List ℕ)) (table fresh : List ℕ) (held new : ℕ) (r : Result ℕ Refusal)
-    (names : List (List ℕ)) (token_is : Token) (shape : ℕ) where
+module _ (text : List ℕ) (at : ℕ) (known : List (List ℕ)) (table fresh : List ℕ) (held new : ℕ) (r : Result ℕ Refusal)
+    (names : List (List ℕ)) (token_is : Token) (after shape : ℕ) where
   pub numbers_variable : (known' : List (List ℕ)) → is_upper_byte (head (drop at text)) ≡ true
-      → NumbersVariable known' (number_of names known (variable (take (after - at) (drop at text)))) r
+      → NumbersVariable known' (number_of names known (variable (bare (drop at text)).bytes)) r
       → Stands text (record { place = at; after = after; shape = shape }) token_is → GatheredNames table fresh held new names
       → Numbers known' table fresh held new (number_of names known token_is) r
   numbers_variable known' u x s g = go token_is s
     where
       go : (t : Token) → Stands text (record { place = at; after = after; shape = shape }) t
           → Numbers known' table fresh held new (number_of names known t) r
-      go t (a_variable p o w e s) =
-          let word : List ℕ = take (after - at) (drop at text) in
-          let word_of = word_is text at after p (upper_left text at after u e) in
-          let same : t ≡ variable word = ap variable (sym w ∙ ap (λ (x : Got). x.bytes) (upper_bare (drop at text) u) ∙ sym word_of) in
-          let stay : (number_of names known (variable word)).names ≡ names = names_stay names known word in
-          rw same (record { refusal_is = x.refusal_is; number_is = x.number_is; known_is = x.known_is; gathered = rw stay g })
+      go t (a_variable p o w s) =
+          let same : t ≡ variable (bare (drop at text)).bytes = ap variable (sym w ∙ ap (λ (x : Got). x.bytes) (upper_bare (drop at text) u)) in
+          rw same
+          (record { refusal_is = x.refusal_is; number_is = x.number_is; known_is = x.known_is; gathered = rw (names_stay names known (bare (drop at text)).bytes) g })
       go t (a_name p o w l s) = absurd (true_not_false u o)
 
   pub numbers_name : (fresh' : List ℕ) (new' : ℕ) → is_upper_byte (head (drop at text)) ≡ false
@@ -166,7 +163,7 @@ module _ (text : List ℕ) (at after : ℕ) (known : List (List ℕ)) (table fre
     where
       go : (t : Token) → Stands text (record { place = at; after = after; shape = shape }) t
           → Numbers known table fresh' held new' (number_of names known t) r
-      go t (a_variable p o w e s) = absurd (true_not_false o u)
+      go t (a_variable p o w s) = absurd (true_not_false o u)
       go t (a_name {bytes = bytes} {arity = arity} p o w l s) =
           let x = rw w at (n arity) in
           record { refusal_is = x.refusal_is; number_is = x.number_is; known_is = sym (words_stay names known bytes arity); gathered = x.gathered }

@@ -15,7 +15,7 @@ use Rattle.tokens.specs.Places.{LeftFrom}
 use Rattle.text.specs.Term.{Token, variable, Start, start_of, mark, after_of, Read, applied, term_from, term, arguments}
 use Rattle.text.specs.Refusals.{Refusal, Names, SeventeenthVariable, NoCell, NoTerm, EighthArgument, number_of_refusal}
 use Rattle.text.specs.Leaves.{Note, note_at, Begun, Followed, place_begun, shape_begun, opens, is_comma, place_followed}
-use Rattle.text.specs.Leaves.{Stands, a_variable, a_name, Stops, Begins, FollowedBy, FollowedByNone, Noted, ReadEnds, ReadsTerm, counted, with_arguments, ReadsArguments}
+use Rattle.text.specs.Leaves.{Stands, a_variable, a_name, IsNote, Stops, Begins, FollowedBy, FollowedByNone, Noted, ReadEnds, ReadsTerm, counted, with_arguments, ReadsArguments}
 
 -- Each refusal has a number.
 pub refused_above : (refusal : Refusal) → number_of_refusal refusal ≡ 0 → ⊥
@@ -34,12 +34,12 @@ noted_none text from notes = record { kept = λ i l. refl; noted = λ i l. absur
 
 -- That of a token before those of others.
 module _ (text : List ℕ) (from : ℕ) (note : Note) (token : Token) (tokens : List Token) (before between after : List Note)
-    (kept : (i : ℕ) → i < from → note_at between i ≡ note_at before i) (here : note_at between from ≡ note) (stands : Stands text note token)
+    (kept : (i : ℕ) → i < from → note_at between i ≡ note_at before i) (here : note_at between from ≡ note) (stands : IsNote text note token)
     (under : Noted text (from + 1) tokens between after) where
   noted_before : Noted text from (token ∷ tokens) before after
   noted_before = record { kept = λ i l. under.kept i (omega arith) ∙ kept i l; noted = go }
     where
-      go : (i : ℕ) → i < length (token ∷ tokens) → Stands text (note_at after (from + i)) (get_or (token ∷ tokens) i (variable []))
+      go : (i : ℕ) → i < length (token ∷ tokens) → IsNote text (note_at after (from + i)) (get_or (token ∷ tokens) i (variable []))
       go zero l =
           let e : from + zero ≡ from = omega arith in
           rw (e, under.kept from (omega arith), here) stands
@@ -56,7 +56,7 @@ with_other notes i count j d = get_or-set_other notes i j _ _ d
 module _ {text : List ℕ} {from : ℕ} (name less more : ℕ) (a b : List Token) (notes notes₁ notes₂ : List Note) (in_notes : name < length notes) (in_notes₁ : name < length notes₁)
     (above : name < from) (p : Noted text from a (with_arguments notes name less) notes₁) (q : Noted text (from + length a) b (with_arguments notes₁ name more) notes₂) where
   abbrev Said : ℕ → Type 0
-  Said i = Stands text (note_at notes₂ (from + i)) (get_or (a ++ b) i (variable []))
+  Said i = IsNote text (note_at notes₂ (from + i)) (get_or (a ++ b) i (variable []))
 
   both_kept : (i : ℕ) → i < from → (Dec (i ≡ name)) → note_at notes₂ i ≡ note_at (with_arguments notes name more) i
   both_kept i l (yes e) =
@@ -84,8 +84,13 @@ module _ {text : List ℕ} {from : ℕ} (name less more : ℕ) (a b : List Token
 stands_applied : {text : List ℕ} {at after : ℕ} {token : Token} (count : ℕ) → count ≤ 8
     → Stands text (record { place = at; after = after; shape = 0 }) token
     → Stands text (record { place = at; after = after; shape = count * 4096 }) (applied token count)
-stands_applied count l (a_variable p u w e s) = absurd (omega arith)
+stands_applied count l (a_variable p u w s) = absurd (omega arith)
 stands_applied count l (a_name p u w m s) = a_name p u w l refl
+
+note_applied : {text : List ℕ} {at after : ℕ} {token : Token} (count : ℕ) → count ≤ 8
+    → IsNote text (record { place = at; after = after; shape = 0 }) token
+    → IsNote text (record { place = at; after = after; shape = count * 4096 }) (applied token count)
+note_applied count l n = record { stands = stands_applied count l n.stands; goes_on = n.goes_on }
 
 -- A term, by how it begins.
 module _ (text : List ℕ) (at from : ℕ) (notes : List Note) (arguments : List ℕ → Read) (s : Start) where
@@ -123,7 +128,7 @@ module _ (text : List ℕ) (at from : ℕ) (notes : List Note) (arguments : List
     applies_here e z size' notes' end u =
         let g = h.opening.goes in
         let count : ℕ = (arguments s.rest).count in
-        let stands : Stands text (record { place = at; after = place_begun b; shape = 0 }) s.token = rw z at h.stands in
+        let stands : IsNote text (record { place = at; after = place_begun b; shape = 0 }) s.token = rw z at h.stands in
         let inside : from < length (set notes from note) = simp length-set (omega arith) in
         rw (eq-eqb s.fault 0 g.fine, sym h.opening.opens_is ∙ e)
         (record {
@@ -132,7 +137,7 @@ module _ (text : List ℕ) (at from : ℕ) (notes : List Note) (arguments : List
           few = omega arith;
           notes_are = noted_before text from (counted note count) (applied s.token count) (arguments s.rest).tokens notes
               (with_arguments (set notes from note) from count) notes' (λ i l. with_other (set notes from note) from count i (λ d. omega arith) ∙ more_kept i l)
-              (with_same (set notes from note) from count inside ∙ ap (λ (x : Note). counted x count) more_here) (stands_applied count u.few stands) u.notes_are;
+              (with_same (set notes from note) from count inside ∙ ap (λ (x : Note). counted x count) more_here) (note_applied count u.few stands) u.notes_are;
         })
 
 -- The same with steps enough.

@@ -26,12 +26,21 @@ pub use Rattle.text.specs.declared.variables.Variables.{Variables}
 abbrev pub note_at : List Note → ℕ → Note
 note_at notes i = get_or notes i (record { place = 0; after = 0; shape = 0 })
 
--- The token that a note says. A variable's word ends where the note says that reading goes on.
+-- The token that a note says.
 pub data Stands (text : List ℕ) (note : Note) : Token → Type 0 where
   a_variable : {word : List ℕ} → note.place ≤ length text → is_upper_byte (head (drop note.place text)) ≡ true → (token (drop note.place text)).bytes ≡ word
-      → LeftFrom text (token (drop note.place text)).rest note.after → note.shape ≡ 32768 → Stands text note (variable word)
+      → note.shape ≡ 32768 → Stands text note (variable word)
   a_name : {bytes : List ℕ} {arity : ℕ} → note.place ≤ length text → is_upper_byte (head (drop note.place text)) ≡ false → (token (drop note.place text)).bytes ≡ bytes
       → arity ≤ 8 → note.shape ≡ arity * 4096 → Stands text note (name bytes arity)
+
+-- Where a token at a place begins as a variable does, reading goes on after it at another.
+abbrev pub GoesOnAt : (text : List ℕ) → (at after : ℕ) → Type 0
+GoesOnAt text at after = is_upper_byte (head (drop at text)) ≡ true → LeftFrom text (token (drop at text)).rest after
+
+-- The note of a reading: it says the token, and where reading goes on after a variable.
+pub record IsNote (text : List ℕ) (note : Note) (token : Token) : Type 0 where
+  pub stands : Stands text note token
+  pub goes_on : GoesOnAt text note.place note.after
 
 -- It stops with a refusal, where the rest begins. The first two are those of numbers, and no reading stops with them.
 abbrev pub StopsAt : (text rest : List ℕ) → Refusal → Type 0
@@ -80,7 +89,7 @@ pub record Named (text : List ℕ) (at : ℕ) (begun : Begun) : Type 0 where
 -- With its token at a place.
 pub record Begins (text : List ℕ) (place : ℕ) (start : Start) (begun : Begun) : Type 0 where
   pub opening : Opening text start begun
-  pub stands : Stands text (record { place = place; after = place_begun begun; shape = shape_begun begun }) start.token
+  pub stands : IsNote text (record { place = place; after = place_begun begun; shape = shape_begun begun }) start.token
 
 abbrev pub BeginsAt : (text : List ℕ) → (place : ℕ) → Start → Result Begun Refusal → Type 0
 BeginsAt text place start (Ok begun) = Begins text place start begun
@@ -110,7 +119,7 @@ Follows text after (Err refusal) = FollowedByNone text after refusal
 -- From the cell `from` on the notes are those of the tokens, and those of the cells before it stay.
 pub record Noted (text : List ℕ) (from : ℕ) (tokens : List Token) (notes notes' : List Note) : Type 0 where
   pub kept : (i : ℕ) → i < from → note_at notes' i ≡ note_at notes i
-  pub noted : (i : ℕ) → i < length tokens → Stands text (note_at notes' (from + i)) (get_or tokens i (variable []))
+  pub noted : (i : ℕ) → i < length tokens → IsNote text (note_at notes' (from + i)) (get_or tokens i (variable []))
 
 -- A term or arguments were read, into the notes from the cell `from` on, up to the cell `size`.
 pub record ReadEnds (text : List ℕ) (from : ℕ) (notes : List Note) (size : ℕ) (notes' : List Note) (end : Result ℕ Refusal) (read : Read) : Type 0 where
@@ -152,6 +161,10 @@ number_in (Err refusal) = 0
 -- Where a token at a place begins as a variable does, its word ends within the text.
 abbrev pub WordEnds : (text : List ℕ) → (at after : ℕ) → Type 0
 WordEnds text at after = is_upper_byte (head (drop at text)) ≡ true → (at ≤ after) × (after ≤ length text)
+
+-- After all variables of a reading it goes on where their notes say.
+abbrev pub AllGoOn : (text : List ℕ) → Notes → Type 0
+AllGoOn text notes = (i : ℕ) → i < notes.size → GoesOnAt text (note_at notes.all i).place (note_at notes.all i).after
 
 -- The words of the variables met.
 abbrev pub known_words : Variables → List (List ℕ)
@@ -216,9 +229,9 @@ NumbersNames text at lookup before after r =
     (names words : List (List ℕ)) (arity : ℕ) → GatheredNames lookup.table.now before.table lookup.held before.count names
     → NumbersName lookup.table.now after.table lookup.held after.count (number_of names words (name (token (drop at text)).bytes arity)) r
 
-abbrev pub NumbersAny : (text : List ℕ) → (at after : ℕ) → Lookup → (variables : Variables) → (fresh : Fresh) → (variables' : Variables) → (fresh' : Fresh) → Result ℕ Refusal → Type 0
-NumbersAny text at after lookup variables fresh variables' fresh' r =
-    (names : List (List ℕ)) (token : Token) (shape : ℕ) → Stands text (record { place = at; after = after; shape = shape }) token
+abbrev pub NumbersAny : (text : List ℕ) → (at : ℕ) → Lookup → (variables : Variables) → (fresh : Fresh) → (variables' : Variables) → (fresh' : Fresh) → Result ℕ Refusal → Type 0
+NumbersAny text at lookup variables fresh variables' fresh' r =
+    (names : List (List ℕ)) (token : Token) (after shape : ℕ) → Stands text (record { place = at; after = after; shape = shape }) token
     → GatheredNames lookup.table.now fresh.table lookup.held fresh.count names
     → Numbers (known_words variables') lookup.table.now fresh'.table lookup.held fresh'.count (number_of names (known_words variables) token) r
 

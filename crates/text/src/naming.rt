@@ -1,7 +1,7 @@
 // The tokens get their numbers.
 ghost use Rattle.std.specs.Prelude.{◌≡◌, ℕ, ◌+◌, ◌≤◌, ◌<◌, length, replicate, IfOk};
 ghost use Rattle.names.specs.Name.{IsName};
-ghost use Rattle.text.specs.Leaves.{note_at, WordEnds, EntersNames, NumbersNames, NumbersAny, NumbersTokens};
+ghost use Rattle.text.specs.Leaves.{note_at, WordEnds, GoesOnAt, AllGoOn, EntersNames, NumbersNames, NumbersAny, NumbersTokens};
 
 use crate::fresh::Fresh;
 use crate::notes::{CELLS, Notes};
@@ -56,7 +56,7 @@ fn number_token<'a>(
     requires within { (fresh.old.count < 32) × (at ≤ length text.now) }
     requires word_ends { WordEnds text.now at after }
     ensures on { (fresh.new.count ≤ fresh.old.count + 1) × IfOk result (λ number. number ≤ 1056) }
-    ensures is { NumbersAny text.now at after lookup.now variables.old fresh.old variables.new fresh.new result }
+    ensures is { GoesOnAt text.now at after → NumbersAny text.now at lookup.now variables.old fresh.old variables.new fresh.new result }
 {
     if tokens::is_upper(tokens::first(text, at)) {
         variables.number(&text[at..after])
@@ -76,7 +76,7 @@ pub fn number_all(
     requires noted { (i : ℕ) → i < notes.now.size
         → ((note_at notes.now.all i).place ≤ length text.now) × ((note_at notes.now.all i).shape ≤ 32768) }
     requires words_end { (i : ℕ) → i < notes.now.size → WordEnds text.now (note_at notes.now.all i).place (note_at notes.now.all i).after }
-    ensures { NumbersTokens text.now lookup.now notes.now fresh.new result }
+    ensures { AllGoOn text.now notes.now → NumbersTokens text.now lookup.now notes.now fresh.new result }
 {
     let mut variables = Variables::none(text);
     let mut cells = [0u16; CELLS];
